@@ -1,0 +1,7 @@
+pub mod Varints
+pub mod Slow
+pub mod Rows
+pub mod Steps
+pub mod Checks
+pub mod Follow
+pub mod Walk

@@ -1,0 +1,4 @@
+pub mod Order
+pub mod Table
+pub mod Parts
+pub mod Tests

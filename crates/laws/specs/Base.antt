@@ -1,0 +1,19 @@
+-- Notions that all definitions share: a choice by a test, and a part of a list.
+use Prim.Native.Nat.{ℕ, _-_}
+use mathlib.Core.List.{List}
+use mathlib.Core.Bool.{Bool, true, false}
+use lib.ListN.{take, drop}
+
+-- the first where the test holds, else the second
+abbrev pub pick : {A : Type 0} → Bool → A → A → A
+pick true a b = a
+pick false a b = b
+
+-- do both tests hold
+abbrev pub both : Bool → Bool → Bool
+both true b = b
+both false b = false
+
+-- the elements from place a up to place e
+abbrev pub part : {A : Type 0} → List A → ℕ → ℕ → List A
+part s a e = take (e - a) (drop a s)
