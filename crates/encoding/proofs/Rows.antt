@@ -2,16 +2,16 @@
 use Prim.Native.Nat.{ℕ, zero, suc, _+_, _-_, _*_, _/_, _%_, _^_, _≤_, _<_}
 use native.Mathlib.Omega.{arith}
 use native.Mathlib.Nat.{zero-div}
-use mathlib.Core.Path.{_≡_, refl, sym, ap, _∙_}
+use mathlib.Core.Path.{_≡_, refl, sym, subst, _∙_}
 use mathlib.Core.List.{List, [], _∷_}
 use mathlib.Core.Bool.{Bool, true, false}
 use mathlib.Core.Logic.{⊎-elim}
-use lib.ListN.{length, getD, List·getD-eq-default}
+use lib.ListN.{length, getD, replicate, List·getD-eq-default}
 use lib.Dec.{T, ltb, leb, eqb, eqb→eq, leb→le}
 use borrow.Author.Tests.{lt-ltb, le-ltb, ne-eqb}
 use Rattle.laws.specs.Base.{pick}
 use Rattle.laws.proofs.Order.{lt-or-le}
-use Rattle.laws.proofs.Table.{below}
+use Rattle.laws.proofs.Table.{every, below}
 use Rattle.encoding.specs.Schema.{schema, kindOf, unknown}
 use Rattle.encoding.specs.Rows.{lows, lowOf, highOf, kindIn}
 
@@ -65,9 +65,9 @@ row m =
     (λ (h : 16 ≤ m). let e : getD schema m [] ≡ [] = List·getD-eq-default schema [] h in rw e (omega arith))
     (lt-or-le m 16)
 
-out : (m n : ℕ) → 16 ≤ n → kindOf m n ≡ 0
+pub no-kind : (m n : ℕ) → 14 ≤ n → kindOf m n ≡ 0
 unfolding kindOf
-out m n l = let h : suc (length (getD schema m [])) ≤ n = omega (arith, row m) in List·getD-eq-default (unknown ∷ getD schema m []) unknown h
+no-kind m n l = let h : suc (length (getD schema m [])) ≤ n = omega (arith, row m) in List·getD-eq-default (unknown ∷ getD schema m []) unknown h
 
 no-row : (m n : ℕ) → 16 ≤ m → kindOf m n ≡ 0
 unfolding kindOf schema
@@ -82,5 +82,14 @@ kind-in m n =
     ⊎-elim
     (λ (l : n < 16).
     ⊎-elim (λ (h : m < 16). inside m n h l) (λ (h : 16 ≤ m). past m n h ∙ sym (no-row m n h)) (lt-or-le m 16))
-    (λ (l : 16 ≤ n). high m n l ∙ sym (out m n l))
+    (λ (l : 16 ≤ n). high m n l ∙ sym (no-kind m n (omega arith)))
     (lt-or-le n 16)
+
+-- a rule of a message's kinds, shown by one test of its numbers below 14 and, beyond, of the unknown kind
+pub kinds : (m : ℕ) (P : ℕ → ℕ → Bool) → T (every (λ n x. P n (kindOf m n)) 0 (replicate 14 0)) → ((n : ℕ) → 14 ≤ n → T (P n 0))
+    → (n : ℕ) → T (P n (kindOf m n))
+kinds m P t h n =
+    ⊎-elim
+    (λ (l : n < 14). below (λ i. P i (kindOf m i)) 14 t n l)
+    (λ (l : 14 ≤ n). subst (λ (k : ℕ). T (P n k)) (sym (no-kind m n l)) (h n l))
+    (lt-or-le n 14)

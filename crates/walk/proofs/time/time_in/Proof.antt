@@ -1,13 +1,11 @@
 use native.Mathlib.Omega.{arith}
 use mathlib.Core.Path.{sym, subst, _∙_}
-use Rattle.wire.specs.Values.{timeFrom, timeOf}
+use Rattle.walk.specs.Places.{timeFrom, timeOf}
 use Rattle.encoding.specs.declared.fields.Last.the-variants as last
 use Rattle.encoding.proofs.Follow.{LastLies, last-in-lies}
 use borrow.Author.Needs.{needs}
-use Rattle.wire.proofs.time.time_in.Statement.{statement}
-use Rattle.wire.proofs.time.time_in.Tie as tie
-use Rattle.wire.proofs.time.time_in.Reads as reads
-use Rattle.wire.proofs.time.time_in.Lts as lts
+use Rattle.walk.proofs.time.time_in.Statement.{statement}
+use Rattle.walk.proofs.time.time_in.Tie as tie
 
 inside : (c : tie.After-known-told) → LastLies (c .before .before .before .before .before .args .s .now) (last.Part (c .before .start .given .0 .0) (c .before .start .given .0 .1 .0) (c .before .start .given .0 .1 .1 .0))
 inside c =

@@ -4,18 +4,17 @@ use native.Mathlib.Omega.{arith}
 use mathlib.Core.Path.{_≡_, refl, sym, subst, ap, _∙_}
 use mathlib.Core.List.{List, [], _∷_}
 use mathlib.Core.Bool.{Bool, true, false}
-use mathlib.Core.Logic.{⊎-elim}
 use lib.ListN.{length, getD}
 use lib.Dec.{T, leb, ltb, eqb, lit≤, leb→le, eqb→eq}
 use borrow.Author.Tests.{lt-leb, le-leb, lt-ltb, le-ltb, ne-eqb, eq-eqb, eqb-true, ltb-true}
-use Rattle.laws.specs.Base.{pick}
+use Rattle.laws.specs.Base.{pick, both}
 use Rattle.encoding.specs.Varint.{varintAt}
 use Rattle.encoding.specs.Schema.{kindOf, takes, schema}
 use Rattle.encoding.specs.Field.{tagAt, partOf, payloadAt, stepOf, stepAt}
 use Rattle.laws.specs.Base.{part}
 use Rattle.encoding.specs.Check.{checkAt, checkOf}
 use Rattle.encoding.specs.Fields.{fieldOf, fieldsAt, among, later, lastOf, lastIn}
-use Rattle.wire.specs.Values.{timeIn, ioRead, ioBufferOf, memberRead, memberFrom, clientRead, clientOf}
+use Rattle.walk.specs.Places.{timeIn, ioRead, ioBufferOf, memberRead, clientFrom, clientRead, clientOf}
 use Rattle.encoding.specs.Fields.{startFrom, endFrom}
 use Rattle.encoding.specs.declared.tag.Tag.the-variants as tag
 use Rattle.encoding.specs.declared.payload.Payload.{Payload}
@@ -27,14 +26,13 @@ use Rattle.encoding.specs.declared.fields.Field.{Field}
 use Rattle.encoding.specs.declared.fields.Field.the-variants as field
 use Rattle.encoding.specs.declared.fields.Last.{Last}
 use Rattle.encoding.specs.declared.fields.Last.the-variants as last
-use Rattle.wire.specs.declared.time.Time.{Time}
-use Rattle.wire.specs.declared.io.IoRead.the-variants as ioread
-use Rattle.wire.specs.declared.client.ClientRead.{ClientRead}
-use Rattle.wire.specs.declared.client.ClientRead.the-variants as client
-use Rattle.laws.proofs.Order.{lt-or-le}
+use Rattle.walk.specs.declared.time.Time.{Time}
+use Rattle.walk.specs.declared.io.IoRead.the-variants as ioread
+use Rattle.walk.specs.declared.client.ClientRead.{ClientRead}
+use Rattle.walk.specs.declared.client.ClientRead.the-variants as client
 use Rattle.encoding.proofs.Checks.{at-end}
 use Rattle.encoding.proofs.Follow.{none, LastLies, last-in-lies}
-use Rattle.laws.proofs.Table.{at, both}
+use Rattle.encoding.proofs.Rows.{kinds}
 use Rattle.encoding.proofs.Walk.{On, leads-on, ends-at, outside, inside-on, inside-stops, no-number, field-leads, field-inside, field-part, field-stops}
 
 -- what an I/O buffer's walk says of its check and where its data lies
@@ -62,29 +60,25 @@ io-lies s x y b d e =
 
 -- the members of a client message are the fields 1 to 13, each a message
 rule : ℕ → ℕ → Bool
-rule i k = pick (ltb i 16) (pick (among 1 13 i) (both (leb 17 k) (leb k 25)) (eqb k 0)) true
+rule n k = pick (among 1 13 n) (both (leb 17 k) (leb k 25)) (eqb k 0)
+
+rule-out : (n : ℕ) → 14 ≤ n → T (rule n 0)
+unfolding rule among
+rule-out n h = let a : 1 ≤ n = omega arith in let b : 13 < n = omega arith in rw (le-leb _ _ a, lt-leb _ _ b) tt
+
+ruled : (f : ℕ) → T (pick (among 1 13 f) (both (leb 17 (kindOf 0 f)) (leb (kindOf 0 f) 25)) (eqb (kindOf 0 f) 0))
+unfolding rule among kindOf schema
+ruled f = kinds 0 rule tt rule-out f
 
 both-both : (a b : Bool) → T (both a b) → T a × T b
 both-both true b t = (tt, t)
 both-both false b t = absurd t
 
-ruled : (f : ℕ) → f < 16 → T (pick (among 1 13 f) (both (leb 17 (kindOf 0 f)) (leb (kindOf 0 f) 25)) (eqb (kindOf 0 f) 0))
-unfolding rule among schema kindOf
-ruled f l = let e : 0 * 16 + f ≡ f = omega arith in rw (lt-ltb _ _ l, e) (rw (lt-ltb _ _ l) at (at rule schema tt f (omega arith)))
-
-beyond : (f : ℕ) → 16 ≤ f → (among 1 13 f ≡ false) × (kindOf 0 f ≡ 0)
-unfolding among kindOf
-beyond f l = let a : 1 ≤ f = omega arith in let b : 13 < f = omega arith in (rw (le-leb _ _ a, lt-leb _ _ b), rw (le-ltb _ _ l))
-
 pub member : (f : ℕ) → among 1 13 f ≡ true → (17 ≤ kindOf 0 f) × (kindOf 0 f ≤ 25)
-member f e =
-    ⊎-elim
-    (λ (l : f < 16). let h = both-both (leb 17 (kindOf 0 f)) (leb (kindOf 0 f) 25) (rw e at (ruled f l)) in (leb→le _ _ (h .0), leb→le _ _ (h .1)))
-    (λ (l : 16 ≤ f). let z : true ≡ false = sym e ∙ beyond f l .0 in let y : _≡_ {A = ℕ} 0 1 = cc in absurd (omega (arith, y)))
-    (lt-or-le f 16)
+member f e = let h = both-both (leb 17 (kindOf 0 f)) (leb (kindOf 0 f) 25) (rw e at (ruled f)) in (leb→le _ _ (h .0), leb→le _ _ (h .1))
 
 pub stranger : (f : ℕ) → among 1 13 f ≡ false → kindOf 0 f ≡ 0
-stranger f e = ⊎-elim (λ (l : f < 16). eqb→eq _ _ (rw e at (ruled f l))) (λ (l : 16 ≤ f). beyond f l .1) (lt-or-le f 16)
+stranger f e = eqb→eq _ _ (rw e at (ruled f))
 
 pub entered : (f : ℕ) → 16 ≤ kindOf 0 f → among 1 13 f ≡ true
 entered f h = go (among 1 13 f) refl
@@ -108,12 +102,12 @@ two-of false e = e
 bytes-only : (k w : ℕ) → 17 ≤ k → k ≤ 25 → takes k w ≡ true → w ≡ 2
 unfolding takes
 bytes-only k w h l e =
-    eqb-true w 2 (two-of (eqb w 2) (rw (ne-eqb k 0 (omega arith), ne-eqb k 1 (omega arith), ne-eqb k 32 (omega arith)) at e))
+    let g : 3 < k = omega arith in eqb-true w 2 (two-of (eqb w 2) (rw (ne-eqb k 0 (omega arith), lt-leb _ _ g, ne-eqb k 32 (omega arith)) at e))
 
 -- a number stands in no member
-pub number-out : (s : List ℕ) (f w x v n : ℕ) → takes (kindOf 0 f) w ≡ true → payloadAt s x w ≡ payload.Number v n → among 1 13 f ≡ false
+pub number-out : (s : List ℕ) (at f w x v n : ℕ) → takes (kindOf 0 f) w ≡ true → payloadAt s at x w ≡ payload.Number v n → among 1 13 f ≡ false
 unfolding payloadAt
-number-out s f w x v n fits e = go (among 1 13 f) refl
+number-out s at f w x v n fits e = go (among 1 13 f) refl
   where
     go : (b : Bool) → among 1 13 f ≡ b → among 1 13 f ≡ false
     go false h = h
@@ -126,11 +120,11 @@ pub record Told (s : List ℕ) (at : ℕ) (found : ClientRead) : Type 0 where
   pub within : at ≤ length s
   pub checks : checkAt 0 s at ≡ checkOf 0 s
   pub kept : Last
-  pub kept-is : memberFrom s kept ≡ found
+  pub kept-is : clientFrom s kept ≡ found
   pub members : lastOf 1 13 kept (fieldsAt s at) ≡ lastIn 1 13 s
 
-pub start : (s : List ℕ) → Told s 0 client.Nothing
-unfolding memberFrom
+pub start : (s : List ℕ) → Told s 0 client.NoMember
+unfolding clientFrom
 start s = record { within = omega arith; checks = refl; kept = last.Nothing; kept-is = refl; members = refl }
 
 module _ {s : List ℕ} {at : ℕ} {found : ClientRead} (g : Told s at found) where
@@ -149,7 +143,7 @@ module _ {s : List ℕ} {at : ℕ} {found : ClientRead} (g : Told s at found) wh
     pub stop : (r p : ℕ) → stepAt 0 s at ≡ step.Refused r p → client.Refused r p ≡ clientOf s
     stop r p e = stopped r p (ends-at 0 s at r p i e)
 
-    on : (n : ℕ) (e : Field) (f : ClientRead) → On 0 s at n e → memberFrom s (later 1 13 (g .kept) e) ≡ f → (at < n) × Told s n f
+    on : (n : ℕ) (e : Field) (f : ClientRead) → On 0 s at n e → clientFrom s (later 1 13 (g .kept) e) ≡ f → (at < n) × Told s n f
     on n e f h p = (
       h .past,
       record {
@@ -163,18 +157,18 @@ module _ {s : List ℕ} {at : ℕ} {found : ClientRead} (g : Told s at found) wh
 
     module _ (f w x : ℕ) (tagged : tagAt s at ≡ tag.Field f w x) (fits : takes (kindOf 0 f) w ≡ true) where
       -- a field that is no member
-      passes : (n : ℕ) (p : Payload) → payloadAt s x w ≡ p → stepOf (kindOf 0 f) p ≡ step.Next n → later 1 13 (g .kept) (fieldOf f p) ≡ g .kept → (at < n) × Told s n found
+      passes : (n : ℕ) (p : Payload) → payloadAt s at x w ≡ p → stepOf (kindOf 0 f) p ≡ step.Next n → later 1 13 (g .kept) (fieldOf f p) ≡ g .kept → (at < n) × Told s n found
       passes n p e h l = on n (fieldOf f p) found (leads-on (field-leads 0 s at f w x (omega arith) tagged fits n p e h) i) (rw l (g .kept-is))
 
-      pub number-passes : (v n : ℕ) → payloadAt s x w ≡ payload.Number v n → (at < n) × Told s n found
+      pub number-passes : (v n : ℕ) → payloadAt s at x w ≡ payload.Number v n → (at < n) × Told s n found
       unfolding stepOf
-      number-passes v n e = passes n (payload.Number v n) e refl (outside 1 13 f (payload.Number v n) (g .kept) (number-out s f w x v n fits e))
+      number-passes v n e = passes n (payload.Number v n) e refl (outside 1 13 f (payload.Number v n) (g .kept) (number-out s at f w x v n fits e))
 
-      pub fixed-passes : (n : ℕ) → payloadAt s x w ≡ payload.Fixed n → (at < n) × Told s n found
+      pub fixed-passes : (n : ℕ) → payloadAt s at x w ≡ payload.Fixed n → (at < n) × Told s n found
       unfolding stepOf fieldOf later
       fixed-passes n e = passes n (payload.Fixed n) e refl refl
 
-      module _ (a b : ℕ) (e : payloadAt s x w ≡ payload.Part a b) where
+      module _ (a b : ℕ) (e : payloadAt s at x w ≡ payload.Part a b) where
         pub part-passes : kindOf 0 f < 16 → (at < b) × Told s b found
         unfolding stepOf
         part-passes h = passes b (payload.Part a b) e (rw (lt-leb _ _ h)) (outside 1 13 f (payload.Part a b) (g .kept) (passed f h))
@@ -185,7 +179,7 @@ module _ {s : List ℕ} {at : ℕ} {found : ClientRead} (g : Told s at found) wh
           inside = field-inside 0 s at f w x (omega arith) tagged fits a b e h
 
           enters : (c : ClientRead) → checkOf (kindOf 0 f - 16) (part s a b) ≡ checked.Fine → memberRead f a b (eqb (kindOf 0 f) 22) (ioBufferOf (part s a b)) ≡ c → (at < b) × Told s b c
-          unfolding later memberFrom
+          unfolding later clientFrom
           enters c k q =
               on b (field.Part f a b) c (inside-on 0 s at (kindOf 0 f - 16) a b i inside f (field-part 0 s at f w x (omega arith) tagged fits a b e) k)
               (rw (entered f h) q)
@@ -193,9 +187,9 @@ module _ {s : List ℕ} {at : ℕ} {found : ClientRead} (g : Told s at found) wh
           pub inside-bad : (r p : ℕ) → checkOf (kindOf 0 f - 16) (part s a b) ≡ checked.Refused r p → client.Refused r (a + p) ≡ clientOf s
           inside-bad r p k = stopped r (a + p) (inside-stops 0 s at (kindOf 0 f - 16) a b i inside r p k)
 
-          pub other-in : (kindOf 0 f ≡ 22 → ⊥) → checkOf (kindOf 0 f - 16) (part s a b) ≡ checked.Fine → (at < b) × Told s b (client.Other f a b)
+          pub other-in : (kindOf 0 f ≡ 22 → ⊥) → checkOf (kindOf 0 f - 16) (part s a b) ≡ checked.Fine → (at < b) × Told s b (client.Member f a b)
           unfolding memberRead
-          other-in n k = enters (client.Other f a b) k (rw (ne-eqb (kindOf 0 f) 22 n))
+          other-in n k = enters (client.Member f a b) k (rw (ne-eqb (kindOf 0 f) 22 n))
 
         module _ (io : kindOf 0 f ≡ 22) where
           pub io-in : (y z c d : ℕ) → ioBufferOf (part s a b) ≡ ioread.Fine y z c d → (at < b) × Told s b (client.Io f y z (a + c) (a + d))

@@ -7,15 +7,13 @@ use lib.ListN.{length}
 use Rattle.encoding.specs.Field.{tagOf}
 use Rattle.laws.specs.Base.{part}
 use Rattle.encoding.specs.Check.{checkOf}
-use Rattle.wire.specs.Values.{timeOf}
+use Rattle.walk.specs.Places.{timeOf}
 use Rattle.laws.proofs.Parts.{length-part}
 use Rattle.encoding.proofs.Checks.{Placed, placed}
 use Rattle.encoding.proofs.Walk.{no-tag, rest-stops, lies, no-number, no-fixed}
-use Rattle.wire.proofs.Ios.{Walked, start, finish, stop, time-bad, delay-inside, delayed, delay-stops, delay-past, ranged, range-past, rest, no-inside}
-use Rattle.wire.proofs.io.io_buffer.Statement.{statement}
-use Rattle.wire.proofs.io.io_buffer.Tie as tie
-use Rattle.wire.proofs.io.io_buffer.Reads as reads
-use Rattle.wire.proofs.io.io_buffer.Lts as lts
+use Rattle.walk.proofs.Ios.{Walked, start, finish, stop, time-bad, delay-inside, delayed, delay-stops, delay-past, ranged, range-past, rest, no-inside}
+use Rattle.walk.proofs.io.io_buffer.Statement.{statement}
+use Rattle.walk.proofs.io.io_buffer.Tie as tie
 
 abbrev Inv-loop : tie.InvT-loop
 Inv-loop s at₀ seconds₀ nanos₀ from₀ to₀ at seconds nanos from to = Walked s at seconds nanos from to

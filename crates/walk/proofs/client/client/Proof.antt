@@ -9,16 +9,13 @@ use Rattle.encoding.specs.Schema.{kindOf, takes}
 use Rattle.laws.specs.Base.{part}
 use Rattle.encoding.specs.Check.{checkOf}
 use Rattle.encoding.specs.Fields.{lastIn}
-use Rattle.wire.specs.Values.{timeIn}
+use Rattle.walk.specs.Places.{timeIn}
 use Rattle.laws.proofs.Parts.{length-part}
 use Rattle.encoding.proofs.Checks.{Placed, placed}
 use Rattle.encoding.proofs.Walk.{lies, misfits, bad-tag, field-stops}
-use Rattle.wire.proofs.Clients.{Told, start, finish, stop, number-passes, fixed-passes, part-passes, inside, inside-bad, other-in, io-in, io-stops, io-lies, io-bad}
-use Rattle.wire.proofs.client.client.Statement.{statement}
-use Rattle.wire.proofs.client.client.Tie as tie
-use Rattle.wire.proofs.client.client.Reads as reads
-use Rattle.wire.proofs.client.client.Lts as lts
-use Rattle.encoding.proofs.check.check.Reads as check-reads
+use Rattle.walk.proofs.Clients.{Told, start, finish, stop, number-passes, fixed-passes, part-passes, inside, inside-bad, other-in, io-in, io-stops, io-lies, io-bad}
+use Rattle.walk.proofs.client.client.Statement.{statement}
+use Rattle.walk.proofs.client.client.Tie as tie
 
 abbrev Inv-loop : tie.InvT-loop
 Inv-loop s at₀ found₀ at found = Told s at found

@@ -5,11 +5,9 @@ use mathlib.Core.Path.{_≡_, refl, sym, _∙_}
 use lib.ListN.{length}
 use Rattle.encoding.specs.Field.{tagOf}
 use Rattle.encoding.proofs.Walk.{no-tag, rest-stops}
-use Rattle.wire.proofs.Times.{Going, start, finish, stop, second, nano, second-past, second-long, nano-past, nano-long, rest, no-inside}
-use Rattle.wire.proofs.time.time_spec.Statement.{statement}
-use Rattle.wire.proofs.time.time_spec.Tie as tie
-use Rattle.wire.proofs.time.time_spec.Reads as reads
-use Rattle.wire.proofs.time.time_spec.Lts as lts
+use Rattle.walk.proofs.Times.{Going, start, finish, stop, second, nano, second-past, second-long, nano-past, nano-long, rest, no-inside}
+use Rattle.walk.proofs.time.time_spec.Statement.{statement}
+use Rattle.walk.proofs.time.time_spec.Tie as tie
 
 abbrev Inv-loop : tie.InvT-loop
 Inv-loop s at₀ seconds₀ nanos₀ at seconds nanos = Going s at seconds nanos

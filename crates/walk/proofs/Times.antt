@@ -14,7 +14,7 @@ use Rattle.encoding.specs.Field.{tagFits, tagOf, payloadAt, stepOf, stepFrom, s
 use Rattle.encoding.specs.Check.{checkAt, checkOf}
 use Rattle.encoding.specs.Fields.{fieldOf, fieldsAt, fieldsOf, among, later, lastOf}
 use Rattle.encoding.specs.Fields.{numberFrom, numberIn}
-use Rattle.wire.specs.Values.{timeRead, timeSpecOf}
+use Rattle.walk.specs.Places.{timeRead, timeSpecOf}
 use Rattle.encoding.specs.declared.varint.Varint.the-variants.{Value, PastEnd, TooLong}
 use Rattle.encoding.specs.declared.payload.Payload.{Payload}
 use Rattle.encoding.specs.declared.payload.Payload.the-variants as payload
@@ -25,11 +25,11 @@ use Rattle.encoding.specs.declared.fields.Field.{Field}
 use Rattle.encoding.specs.declared.fields.Field.the-variants as field
 use Rattle.encoding.specs.declared.fields.Last.{Last}
 use Rattle.encoding.specs.declared.fields.Last.the-variants as last
-use Rattle.wire.specs.declared.time.TimeRead.the-variants as timeread
+use Rattle.walk.specs.declared.time.TimeRead.the-variants as timeread
 use Rattle.encoding.proofs.Checks.{at-end}
 use Rattle.encoding.proofs.Follow.{none}
 use Rattle.encoding.proofs.Walk.{alone}
-use Rattle.laws.proofs.Table.{at}
+use Rattle.encoding.proofs.Rows.{kinds}
 use Rattle.encoding.proofs.Walk.{Leads, further, checks-on, keeps-on, ends-at, outside, same-number, number-leads, number-past, number-long, Rest, rest-leads}
 
 -- at a place of the walk: the check and the last numbers of the whole are those from here on
@@ -120,18 +120,11 @@ module _ {s : List ℕ} {at sec nan : ℕ} (g : Going s at sec nan) where
 
 -- no field of a TimeSpec is entered
 flat : ℕ → ℕ → Bool
-flat i k = pick (eqb (i / 16) 10) (ltb k 16) true
+flat n k = ltb k 16
 
 shallow : (f : ℕ) → kindOf 10 f < 16
 unfolding flat kindOf schema
-shallow f = go (ltb f 16) refl
-  where
-    go : (b : Bool) → ltb f 16 ≡ b → pick b (getD schema (10 * 16 + f) 0) 0 < 16
-    go false h = lit≤ tt
-    go true h =
-        let l = ltb-true f 16 h in
-        let d : (10 * 16 + f) / 16 ≡ 10 = omega arith in
-        ltb→lt _ _ (rw d at (at flat schema tt (10 * 16 + f) (omega arith)))
+shallow f = ltb→lt _ _ (kinds 10 flat tt (λ n h. tt) f)
 
 not-inside : (k : ℕ) (p : Payload) (i a b : ℕ) → k < 16 → stepOf k p ≡ step.Inside i a b → _≡_ {A = ℕ} 0 1
 unfolding stepOf
@@ -146,7 +139,7 @@ no-inside s at t x i a b e = let z = go (tagFits t) refl in omega arith
   where
     inner : tagFits t ≡ true → (q : Bool) → takes (kindOf 10 (t / 8)) (t % 8) ≡ q → _≡_ {A = ℕ} 0 1
     inner h false k = cc (rw (h, k) at e)
-    inner h true k = not-inside (kindOf 10 (t / 8)) (payloadAt s x (t % 8)) i a b (shallow (t / 8)) (rw (h, k) at e)
+    inner h true k = not-inside (kindOf 10 (t / 8)) (payloadAt s at x (t % 8)) i a b (shallow (t / 8)) (rw (h, k) at e)
 
     go : (q : Bool) → tagFits t ≡ q → _≡_ {A = ℕ} 0 1
     go false h = cc (rw h at e)

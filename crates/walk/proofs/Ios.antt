@@ -14,7 +14,7 @@ use Rattle.encoding.specs.Field.{tagFits, tagOf, partOf, stepFrom, stepAt}
 use Rattle.laws.specs.Base.{part}
 use Rattle.encoding.specs.Check.{checkAt, checkOf}
 use Rattle.encoding.specs.Fields.{fieldOf, fieldsAt, among, later, lastOf, lastIn}
-use Rattle.wire.specs.Values.{timeOf, timeFrom, timeRead, timeSpecOf, ioRead, ioBufferOf}
+use Rattle.walk.specs.Places.{timeOf, timeFrom, timeRead, timeSpecOf, ioRead, ioBufferOf}
 use Rattle.encoding.specs.Fields.{startFrom, endFrom}
 use Rattle.encoding.specs.declared.varint.Varint.the-variants.{Value}
 use Rattle.encoding.specs.declared.payload.Payload.the-variants as payload
@@ -25,12 +25,12 @@ use Rattle.encoding.specs.declared.fields.Field.{Field}
 use Rattle.encoding.specs.declared.fields.Field.the-variants as field
 use Rattle.encoding.specs.declared.fields.Last.{Last}
 use Rattle.encoding.specs.declared.fields.Last.the-variants as last
-use Rattle.wire.specs.declared.time.Time.{Time}
-use Rattle.wire.specs.declared.time.TimeRead.the-variants as timeread
-use Rattle.wire.specs.declared.io.IoRead.the-variants as ioread
+use Rattle.walk.specs.declared.time.Time.{Time}
+use Rattle.walk.specs.declared.time.TimeRead.the-variants as timeread
+use Rattle.walk.specs.declared.io.IoRead.the-variants as ioread
 use Rattle.encoding.proofs.Checks.{at-end}
 use Rattle.encoding.proofs.Follow.{none}
-use Rattle.laws.proofs.Table.{at}
+use Rattle.encoding.proofs.Rows.{kinds}
 use Rattle.encoding.proofs.Walk.{On, leads-on, ends-at, outside, other, rest-leads, part-field, part-leads, part-inside, part-stops, inside-on, inside-stops, none-inside}
 
 -- what a TimeSpec's walk says of its check and its numbers
@@ -83,19 +83,15 @@ two t f h = let w = eqb-true (t % 8) 2 (two-of (eqb (t % 8) 2) (rw f at h)) in o
 
 -- only the delay is a message
 flat : ℕ → ℕ → Bool
-flat i k = pick (eqb (i / 16) 6) (pick (eqb (i % 16) 1) true (ltb k 16)) true
+flat n k = pick (eqb n 1) true (ltb k 16)
+
+flat-out : (n : ℕ) → 14 ≤ n → T (flat n 0)
+unfolding flat
+flat-out n h = rw (ne-eqb n 1 (omega arith)) tt
 
 shallow : (f : ℕ) → (f ≡ 1 → ⊥) → kindOf 6 f < 16
 unfolding flat kindOf schema
-shallow f never = go (ltb f 16) refl
-  where
-    go : (b : Bool) → ltb f 16 ≡ b → pick b (getD schema (6 * 16 + f) 0) 0 < 16
-    go false h = lit≤ tt
-    go true h =
-        let l = ltb-true f 16 h in
-        let d : (6 * 16 + f) / 16 ≡ 6 = omega arith in
-        let m : (6 * 16 + f) % 16 ≡ f = omega arith in
-        ltb→lt _ _ (rw (d, m, ne-eqb f 1 never) at (at flat schema tt (6 * 16 + f) (omega arith)))
+shallow f never = ltb→lt _ _ (rw (ne-eqb f 1 never) at (kinds 6 flat tt flat-out f))
 
 module _ {s : List ℕ} {at sec nan from to : ℕ} (g : Walked s at sec nan from to) where
   pub finish : length s ≤ at → ioread.Fine sec nan from to ≡ ioBufferOf s

@@ -1,0 +1,66 @@
+-- Where a message's values stand in its bytes, as the readers answer: numbers as they were read, and places of bytes.
+-- `Message` says what these values mean.
+use Prim.Native.Nat.{ℕ, _+_}
+use mathlib.Core.List.{List}
+use mathlib.Core.Bool.{Bool, true, false}
+use lib.Dec.{eqb}
+use Rattle.laws.specs.Base.{part}
+use Rattle.encoding.specs.Schema.{kindOf}
+use Rattle.encoding.specs.Check.{checkOf}
+use Rattle.encoding.specs.Fields.{numberIn, lastIn, startFrom, endFrom}
+use Rattle.encoding.specs.declared.fields.Last.{Last}
+use Rattle.encoding.specs.declared.fields.Last.the-variants as last
+use Rattle.encoding.specs.declared.check.Checked.{Checked}
+use Rattle.encoding.specs.declared.check.Checked.the-variants as checked
+use Rattle.walk.specs.declared.time.Time.{Time}
+use Rattle.walk.specs.declared.time.TimeRead.{TimeRead}
+use Rattle.walk.specs.declared.time.TimeRead.the-variants as timeread
+use Rattle.walk.specs.declared.io.IoRead.{IoRead}
+use Rattle.walk.specs.declared.io.IoRead.the-variants as ioread
+use Rattle.walk.specs.declared.client.ClientRead.{ClientRead}
+use Rattle.walk.specs.declared.client.ClientRead.the-variants as client
+
+abbrev pub timeOf : List ℕ → Time
+timeOf s = record { seconds = numberIn 1 s; nanos = numberIn 2 s }
+
+unfoldable pub timeFrom : List ℕ → Last → Time
+timeFrom s last.Nothing = record { seconds = 0; nanos = 0 }
+timeFrom s (last.Number f v) = record { seconds = 0; nanos = 0 }
+timeFrom s (last.Part f a e) = timeOf (part s a e)
+
+abbrev pub timeIn : ℕ → List ℕ → Time
+timeIn f s = timeFrom s (lastIn f f s)
+
+-- a TimeSpec that is fine, by its numbers
+unfoldable pub timeRead : Checked → Time → TimeRead
+timeRead checked.Fine t = timeread.Fine (t .seconds) (t .nanos)
+timeRead (checked.Refused r p) t = timeread.Refused r p
+
+abbrev pub timeSpecOf : List ℕ → TimeRead
+timeSpecOf s = timeRead (checkOf 10 s) (timeOf s)
+
+-- an I/O buffer that is fine, by its delay and where its data lies
+unfoldable pub ioRead : Checked → Time → Last → IoRead
+ioRead checked.Fine t l = ioread.Fine (t .seconds) (t .nanos) (startFrom l) (endFrom l)
+ioRead (checked.Refused r p) t l = ioread.Refused r p
+
+abbrev pub ioBufferOf : List ℕ → IoRead
+ioBufferOf s = ioRead (checkOf 6 s) (timeIn 1 s) (lastIn 2 2 s)
+
+-- a member from a to e: an I/O buffer by its values, its data at the whole's places
+unfoldable pub memberRead : ℕ → ℕ → ℕ → Bool → IoRead → ClientRead
+memberRead f a e true (ioread.Fine x y b c) = client.Io f x y (a + b) (a + c)
+memberRead f a e true (ioread.Refused r p) = client.NoMember
+memberRead f a e false i = client.Member f a e
+
+unfoldable pub clientFrom : List ℕ → Last → ClientRead
+clientFrom s last.Nothing = client.NoMember
+clientFrom s (last.Number f v) = client.NoMember
+clientFrom s (last.Part f a e) = memberRead f a e (eqb (kindOf 0 f) 22) (ioBufferOf (part s a e))
+
+unfoldable pub clientRead : Checked → ClientRead → ClientRead
+clientRead checked.Fine c = c
+clientRead (checked.Refused r p) c = client.Refused r p
+
+abbrev pub clientOf : List ℕ → ClientRead
+clientOf s = clientRead (checkOf 0 s) (clientFrom s (lastIn 1 13 s))

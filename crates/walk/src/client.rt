@@ -1,0 +1,120 @@
+// ClientMessage.
+use crate::io::IoRead;
+use crate::io::io_buffer;
+use encoding::check::Checked;
+use encoding::check::check;
+use encoding::payload::Payload;
+use encoding::payload::payload_at;
+use encoding::schema::kind_of;
+use encoding::schema::takes;
+use encoding::tag::Tag;
+use encoding::tag::tag_at;
+ghost use mathlib.Core.Path.{_≡_};
+ghost use Rattle.walk.specs.Places.{clientOf};
+
+// A client message: its last member, an I/O buffer by its values; or its refusal with the place.
+pub enum ClientRead {
+    NoMember,
+    Io {
+        member: u64,
+        seconds: u64,
+        nanos: u64,
+        start: usize,
+        end: usize,
+    },
+    Member {
+        member: u64,
+        start: usize,
+        end: usize,
+    },
+    Refused {
+        refusal: u8,
+        place: usize,
+    },
+}
+
+// The check of a client message and its last member in one walk. It does not call `step_at`: that has one caller, and is inlined there.
+pub fn client(s: &[u8]) -> ClientRead
+    ensures { λ r. ⌜ r ≡ clientOf (now (s .entry)) ⌝ }
+{
+    let mut at: usize = 0;
+    let mut found = ClientRead::NoMember;
+    while at < s.len() {
+        match tag_at(s, at) {
+            Tag::Refused { refusal } => {
+                return ClientRead::Refused { refusal, place: at };
+            }
+            Tag::Field { number, wire, next } => {
+                let kind = kind_of(0, number);
+                if takes(kind, wire) {
+                    match payload_at(s, at, next, wire) {
+                        Payload::Part { start, end } => {
+                            if kind == 22 {
+                                match io_buffer(&s[start..end]) {
+                                    IoRead::Fine {
+                                        seconds,
+                                        nanos,
+                                        start: a,
+                                        end: e,
+                                    } => {
+                                        found = ClientRead::Io {
+                                            member: number,
+                                            seconds,
+                                            nanos,
+                                            start: start + a,
+                                            end: start + e,
+                                        };
+                                        at = end;
+                                    }
+                                    IoRead::Refused { refusal, place } => {
+                                        return ClientRead::Refused {
+                                            refusal,
+                                            place: start + place,
+                                        };
+                                    }
+                                }
+                            } else if 16 <= kind {
+                                match check(kind - 16, &s[start..end]) {
+                                    Checked::Fine => {
+                                        found = ClientRead::Member {
+                                            member: number,
+                                            start,
+                                            end,
+                                        };
+                                        at = end;
+                                    }
+                                    Checked::Refused { refusal, place } => {
+                                        return ClientRead::Refused {
+                                            refusal,
+                                            place: start + place,
+                                        };
+                                    }
+                                }
+                            } else {
+                                at = end;
+                            }
+                        }
+                        Payload::Number {
+                            value: _,
+                            next: after,
+                        } => {
+                            at = after;
+                        }
+                        Payload::Fixed { next: after } => {
+                            at = after;
+                        }
+                        Payload::Refused { refusal, place } => {
+                            return ClientRead::Refused { refusal, place };
+                        }
+                    }
+                } else {
+                    return ClientRead::Refused {
+                        refusal: 5,
+                        place: at,
+                    };
+                }
+            }
+        }
+    }
+    found
+}
