@@ -1,1 +1,3 @@
 pub mod Elements
+pub mod Packed
+pub mod Numbers
