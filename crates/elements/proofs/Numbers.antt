@@ -1,7 +1,7 @@
 -- The numbers of a NumberList at a cursor, and at a field.
 use Prim.Native.Nat.{ℕ, _≤_, _<_}
 use native.Mathlib.Omega.{arith}
-use mathlib.Core.Path.{_≡_, refl, sym, ap, subst, _∙_}
+use mathlib.Core.Path.{_≡_, sym, ap, subst, _∙_}
 use mathlib.Core.List.{List, [], _∷_, _++_, map}
 use mathlib.Core.Bool.{Bool, true, false}
 use mathlib.Core.Logic.{⊎-elim}
@@ -15,12 +15,11 @@ use Rattle.encoding.specs.Fields.{fieldAt, onField, fieldsAt}
 use Rattle.encoding.specs.Items.{number, bytes, itemOf, items}
 use Rattle.encoding.specs.declared.fields.Field.{Field}
 use Rattle.encoding.specs.declared.varint.Varint.{Varint}
-use Rattle.encoding.specs.declared.varint.Varint.the-variants.{Value, PastEnd, TooLong}
+use Rattle.encoding.specs.declared.varint.Varint.the-variants.{Value, PastEnd}
 use Rattle.encoding.proofs.Varints.{past}
 use Rattle.encoding.proofs.Steps.{Read, read}
 use Rattle.encoding.proofs.Follow.{FieldRead, field-read, follow, none}
 use Rattle.elements.specs.Elements.{itemsAt, onVarint, varintsAt, varints, numbersOf, numbersAt, told}
-use Rattle.elements.specs.declared.Next.{Next}
 use Rattle.elements.specs.declared.Next.the-variants as next
 use Rattle.elements.proofs.Packed.{varints-follow, packed}
 
