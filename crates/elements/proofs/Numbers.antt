@@ -34,6 +34,7 @@ reach : (s : List ℕ) (e : ℕ) → length (take e s) ≤ e
 reach s e = rw length-take (omega arith)
 
 module _ (s : List ℕ) where
+  -- a cursor up to its end: what is left of the packed part, then the fields past it
   within : (n e : ℕ) → n ≤ e → varintsAt (take e s) n ++ numbersOf (itemsAt s e) ≡ numbersAt s n e
   unfolding numbersAt
   within n e h = rw (resumes n e h)
@@ -59,6 +60,7 @@ module _ (s : List ℕ) where
       ap (λ (l : List ℕ). l ++ numbersOf (itemsAt s (pick (ltb at e) e at)))
       (ap (λ (q : Varint). onVarint (varintsAt (take e s)) q) (sym h) ∙ sym (varints-follow (take e s) at))
 
+  -- the varint read there is the first of the numbers left, and the cursor past it leaves the others
   pub at-value : (at e v n : ℕ) → varintAt (take e s) at ≡ Value v n → told s (next.Value v n e) ≡ numbersAt s at e
   unfolding told onVarint
   at-value at e v n h =
@@ -96,6 +98,7 @@ module _ (s : List ℕ) where
           (ap (λ (x : Varint). onVarint (varintsAt (take e s)) x) (sym q) ∙ sym (varints-follow (take e s) a) ∙ sym (packed s a e))
       inner false q = ap (λ (x : Varint). onVarint (varintsAt (take e s)) x ++ numbersOf (itemsAt s e)) (sym q)
 
+  -- the varint read there, with the cursor past it
   pub part-value : (g a e v n : ℕ) → pick (eqb g 1) (varintAt (take e s) a) PastEnd ≡ Value v n
       → told s (next.Value v n e) ≡ numbersOf (bytes g (part s a e) ∷ itemsAt s e)
   unfolding told onVarint
