@@ -10,10 +10,9 @@ use lib.Dec.{eqb}
 use Rattle.laws.specs.Base.{pick, part}
 use Rattle.laws.proofs.Order.{lt-or-le}
 use Rattle.encoding.specs.Fields.{fieldAt, onField, fieldsAt, firstOf}
-use Rattle.encoding.specs.Items.{Item, itemOf, items, everyBytes}
+use Rattle.encoding.specs.Items.{itemOf, items, everyBytes}
 use Rattle.encoding.specs.declared.fields.Field.{Field}
 use Rattle.encoding.specs.declared.fields.Field.the-variants as field
-use Rattle.encoding.specs.declared.fields.Found.{Found}
 use Rattle.encoding.specs.declared.fields.Found.the-variants as found
 use Rattle.encoding.proofs.Follow.{FieldRead, field-read, follow, none}
 use Rattle.elements.specs.Elements.{elementsAt}

@@ -1,1 +1,4 @@
 pub mod Elements
+pub mod Packed
+pub mod Numbers
+pub mod Examples

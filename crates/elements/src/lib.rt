@@ -5,15 +5,12 @@ use encoding::fields::field_at;
 use encoding::varint::Varint;
 use encoding::varint::varint_at;
 ghost use mathlib.Core.Path.{_≡_};
-ghost use mathlib.Core.List.{map};
 ghost use lib.ListN.{take};
 ghost use lib.Dec.{ltb, eqb};
 ghost use Rattle.laws.specs.Base.{pick};
 ghost use Rattle.encoding.specs.Varint.{varintAt};
-ghost use Rattle.encoding.specs.Fields.{fieldsAt};
-ghost use Rattle.encoding.specs.Items.{itemOf};
 ghost use Rattle.encoding.specs.declared.varint.Varint.the-variants.{PastEnd};
-ghost use Rattle.elements.specs.Elements.{numbersOf, numbersAt, told};
+ghost use Rattle.elements.specs.Elements.{itemsAt, numbersOf, numbersAt, told};
 
 // The next number of a NumberList with the cursor past it: a place, and the end of the packed numbers that it is in.
 pub enum Next {
@@ -43,7 +40,7 @@ fn packed_in(s: &[u8], number: u64, start: usize, end: usize) -> Varint
 
 // The first number of the fields from a place on.
 fn number_from(s: &[u8], from: usize) -> Next
-    ensures { λ r. ⌜ told (now (s .entry)) r ≡ numbersOf (map (itemOf (now (s .entry))) (fieldsAt (now (s .entry)) from)) ⌝ }
+    ensures { λ r. ⌜ told (now (s .entry)) r ≡ numbersOf (itemsAt (now (s .entry)) from) ⌝ }
 {
     let mut at = from;
     while at < s.len() {
