@@ -41,6 +41,9 @@ static struct slice slice_of(const char *text, size_t n)
 /* The bytes of a string literal without its closing zero. */
 #define BYTES(TEXT) slice_of(TEXT, sizeof(TEXT) - 1)
 
+/* The number -1 as a varint. */
+#define MINUS_ONE "\xFF\xFF\xFF\xFF\xFF\xFF\xFF\xFF\xFF\x01"
+
 static struct slice part(struct slice s, struct sudolog_span span)
 {
     s.m += span.offset;
@@ -154,7 +157,7 @@ static void example_2_ttyout(void)
 
 static void example_4_int64(void)
 {
-    struct slice minus = BYTES("\x08\xFF\xFF\xFF\xFF\xFF\xFF\xFF\xFF\xFF\x01");
+    struct slice minus = BYTES("\x08" MINUS_ONE);
     struct slice least = BYTES("\x08\x80\x80\x80\x80\x80\x80\x80\x80\x80\x01");
     struct slice greatest = BYTES("\x08\xFF\xFF\xFF\xFF\xFF\xFF\xFF\xFF\x7F");
     struct sudolog_time moment;
@@ -185,7 +188,7 @@ static void example_6_commit_point(void)
 
 static void entry_values(void)
 {
-    struct slice number = BYTES("\x0A\x03uid\x10\xFF\xFF\xFF\xFF\xFF\xFF\xFF\xFF\xFF\x01");
+    struct slice number = BYTES("\x0A\x03uid\x10" MINUS_ONE);
     struct slice string = BYTES("\x0A\x03tty\x1A\x04pts0");
     struct slice strings = BYTES("\x0A\x04" "argv\x22\x05\x0A\x01" "a\x0A\x00");
     struct slice numbers = BYTES("\x0A\x04gids\x2A\x04\x0A\x02\x01\x02");
@@ -260,11 +263,10 @@ static void numbers_in_order(void)
     CHECK(numbers_are(BYTES(""), expected, 0));
     CHECK(numbers_are(BYTES("\x0A\x00"), expected, 0));
     CHECK(numbers_are(BYTES("\x0A\x00\x78\x05\x0A\x00"), expected, 0));
-    CHECK(numbers_are(BYTES("\x08\x01\x08\xAC\x02\x08\xFF\xFF\xFF\xFF\xFF\xFF\xFF\xFF\xFF\x01\x08\x00"), expected, 4));
-    CHECK(numbers_are(BYTES("\x0A\x0E\x01\xAC\x02\xFF\xFF\xFF\xFF\xFF\xFF\xFF\xFF\xFF\x01\x00"), expected, 4));
-    CHECK(numbers_are(BYTES("\x0A\x03\x01\xAC\x02\x0A\x0B\xFF\xFF\xFF\xFF\xFF\xFF\xFF\xFF\xFF\x01\x00"), expected, 4));
-    CHECK(numbers_are(BYTES("\x08\x01\x0A\x00\x0A\x0C\xAC\x02\xFF\xFF\xFF\xFF\xFF\xFF\xFF\xFF\xFF\x01\x78\x05\x08\x00"),
-                      expected, 4));
+    CHECK(numbers_are(BYTES("\x08\x01\x08\xAC\x02\x08" MINUS_ONE "\x08\x00"), expected, 4));
+    CHECK(numbers_are(BYTES("\x0A\x0E\x01\xAC\x02" MINUS_ONE "\x00"), expected, 4));
+    CHECK(numbers_are(BYTES("\x0A\x03\x01\xAC\x02\x0A\x0B" MINUS_ONE "\x00"), expected, 4));
+    CHECK(numbers_are(BYTES("\x08\x01\x0A\x00\x0A\x0C\xAC\x02" MINUS_ONE "\x78\x05\x08\x00"), expected, 4));
     CHECK(numbers_are(BYTES("\x7A\x02\x08\x07\x0A\x01\x01\x08\xAC\x02"), expected, 2));
 }
 
@@ -300,7 +302,8 @@ static void accept_fields(void)
 
 static void reject_fields(void)
 {
-    struct slice in = BYTES("\x0A\x02\x08\x05\x12\x02no\x1A\x06\x0A\x01k\x1A\x01v\x1A\x0C\x0A\x04" "argv\x22\x04\x0A\x02ls");
+    struct slice in = BYTES("\x0A\x02\x08\x05\x12\x02no"
+                            "\x1A\x06\x0A\x01k\x1A\x01v\x1A\x0C\x0A\x04" "argv\x22\x04\x0A\x02ls");
     struct sudolog_reject reject;
     CHECK(sudolog_read_reject(in.m, in.n, &reject) == 0);
     CHECK(is_time(reject.submit_time, 5, 0));
@@ -310,7 +313,7 @@ static void reject_fields(void)
 
 static void alert_fields(void)
 {
-    struct slice in = BYTES("\x0A\x0B\x08\xFF\xFF\xFF\xFF\xFF\xFF\xFF\xFF\xFF\x01\x12\x02no"
+    struct slice in = BYTES("\x0A\x0B\x08" MINUS_ONE "\x12\x02no"
                             "\x1A\x06\x0A\x01k\x1A\x01v\x1A\x0C\x0A\x04" "argv\x22\x04\x0A\x02ls");
     struct sudolog_alert alert;
     CHECK(sudolog_read_alert(in.m, in.n, &alert) == 0);
@@ -413,7 +416,7 @@ static void scan_finds_delay_and_data(void)
 {
     struct slice in = BYTES("\x6A\x00\x52\x0C\x0A\x04\x08\x05\x10\x07\x12\x04" "data\x78\x00");
     struct slice size = BYTES("\x5A\x04\x0A\x02\x08\x05");
-    struct slice past = BYTES("\x3A\x0D\x0A\x0B\x10\xFF\xFF\xFF\xFF\xFF\xFF\xFF\xFF\xFF\x01");
+    struct slice past = BYTES("\x3A\x0D\x0A\x0B\x10" MINUS_ONE);
     struct sudolog_client_scan scan;
     CHECK(sudolog_scan_client(in.m, in.n, &scan) == 0);
     CHECK(scan.member == SUDOLOG_FROM_CLIENT_STDERR);
@@ -580,7 +583,7 @@ static void ranges_of_times(void)
 {
     OUT_OF_RANGE(io_buffer, BYTES("\x0A\x06\x08\x80\x80\x80\x80\x10"));       /* 4,294,967,296 s */
     OUT_OF_RANGE(io_buffer, BYTES("\x0A\x06\x10\x80\x94\xEB\xDC\x03"));       /* 1,000,000,000 ns */
-    OUT_OF_RANGE(suspend, BYTES("\x0A\x0B\x08\xFF\xFF\xFF\xFF\xFF\xFF\xFF\xFF\xFF\x01\x12\x01x"));
+    OUT_OF_RANGE(suspend, BYTES("\x0A\x0B\x08" MINUS_ONE "\x12\x01x"));
     OUT_OF_RANGE(restart, BYTES("\x0A\x01x\x12\x06\x08\x80\x80\x80\x80\x10"));
     OUT_OF_RANGE(exit, BYTES("\x0A\x06\x08\x80\x80\x80\x80\x10"));
     OUT_OF_RANGE(accept, BYTES("\x0A\x06\x10\x80\x94\xEB\xDC\x03"));
