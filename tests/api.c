@@ -538,6 +538,8 @@ static void each_refusal(void)
     REFUSED_BOTH(client_hello, "\x08\x00", 5);
     REFUSED_BOTH(client_hello, "\x0D", 5);
     REFUSED_BOTH(number_list, "\x0D\x00\x00\x00\x00", 5);
+    REFUSED_BOTH(server_hello, "\x22\x00", 5);  /* subcommands, and below hello_msg: in the manual's */
+    REFUSED_BOTH(client_message, "\x68\x00", 5); /* sections, not in its listing */
     REFUSED_BOTH(client_message, "", 6);
     REFUSED_BOTH(client_message, "\x78\x00", 6);
     REFUSED_BOTH(server_message, "\x6A\x00", 6);
@@ -568,15 +570,19 @@ static void nothing_written(void)
 
 static void leftmost_place_first(void)
 {
-    struct slice overwritten = BYTES("\x1A\x03\x10\xAC\x02\x6A\x00");
+    struct slice exited = BYTES("\x1A\x03\x10\xAC\x02\x6A\x00");
+    struct slice committed = BYTES("\x12\x06\x08\x80\x80\x80\x80\x10\x1A\x00");
     struct sudolog_client_message message;
+    struct sudolog_server_message answer;
     REFUSED_BOTH(client_message, "\x3A\x02\x08\x00\x00", 5);         /* 5 inside, then 4 outside */
     REFUSED_BOTH(client_message, "\x3A\x02\x12\x05\x6A\x00", 3);     /* an overwritten member */
     REFUSED_BOTH(client_message, "\x3A\x04\x12\x03" "ab\x6A\x00", 3); /* its data would end outside it */
     REFUSED_BOTH(client_message, "\x3B", 4);                         /* at one tag 4 goes before 5 */
-    /* ranges look only at what counts: exit_value 300 is overwritten by a hello */
-    CHECK(sudolog_read_client_message(overwritten.m, overwritten.n, &message) == 0);
+    /* ranges look only at what counts: a hello overwrites exit_value 300, a log id a commit point */
+    CHECK(sudolog_read_client_message(exited.m, exited.n, &message) == 0);
     CHECK(message.member == SUDOLOG_FROM_CLIENT_HELLO);
+    CHECK(sudolog_read_server_message(committed.m, committed.n, &answer) == 0);
+    CHECK(answer.member == SUDOLOG_FROM_SERVER_LOG_ID && is_time(answer.commit_point, 0, 0));
 }
 
 static void ranges_of_times(void)
