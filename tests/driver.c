@@ -194,13 +194,25 @@ static void put_restart(const uint8_t *m, const struct sudolog_restart *v)
     putchar('}');
 }
 
-static void put_io_buffer(const uint8_t *m, const struct sudolog_io_buffer *v)
+/* An I/O buffer and a suspend event differ in the name of their bytes alone. */
+static void put_delayed(const uint8_t *m, const struct sudolog_time *delay, const char *name,
+                        struct sudolog_span bytes)
 {
     put_name("{", "delay");
-    put_time(m, &v->delay);
-    put_name(",", "data");
-    put_bytes(m, v->data);
+    put_time(m, delay);
+    put_name(",", name);
+    put_bytes(m, bytes);
     putchar('}');
+}
+
+static void put_io_buffer(const uint8_t *m, const struct sudolog_io_buffer *v)
+{
+    put_delayed(m, &v->delay, "data", v->data);
+}
+
+static void put_suspend(const uint8_t *m, const struct sudolog_suspend *v)
+{
+    put_delayed(m, &v->delay, "signal", v->signal);
 }
 
 static void put_window_size(const uint8_t *m, const struct sudolog_window_size *v)
@@ -208,15 +220,6 @@ static void put_window_size(const uint8_t *m, const struct sudolog_window_size *
     put_name("{", "delay");
     put_time(m, &v->delay);
     printf(",\"rows\":%" PRId32 ",\"cols\":%" PRId32 "}", v->rows, v->cols);
-}
-
-static void put_suspend(const uint8_t *m, const struct sudolog_suspend *v)
-{
-    put_name("{", "delay");
-    put_time(m, &v->delay);
-    put_name(",", "signal");
-    put_bytes(m, v->signal);
-    putchar('}');
 }
 
 static void put_client_hello(const uint8_t *m, const struct sudolog_client_hello *v)
