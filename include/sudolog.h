@@ -124,6 +124,8 @@ uint8_t sudolog_client(const uint8_t *s, size_t n, uint8_t *out, size_t room);
  * (m, n) is the message without its frame's four bytes; m may be NULL where n is 0. Nothing is copied
  * and nothing is allocated: strings, bytes and embedded messages come back as spans of the slice that
  * was handed in, lists as small structs that point into it and are walked with a `next` function.
+ * "In range" beside a member is what sudolog_read_NAME takes; after sudolog_decode_NAME it may hold any
+ * value of its type.
  *
  *   struct sudolog_client_message message;
  *   struct sudolog_accept accept;
