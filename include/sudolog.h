@@ -16,6 +16,7 @@
 #ifndef SUDOLOG_H
 #define SUDOLOG_H
 
+#include <stdbool.h>
 #include <stddef.h>
 #include <stdint.h>
 
@@ -95,3 +96,502 @@ uint8_t sudolog_next_number(const uint8_t *s, size_t n, size_t at, size_t end, u
  * I/O buffers 6 to 10, the delay's seconds and nanoseconds and where the data lies (offset, length); of
  * other members these last four are 0. 12 where `room` is below 56. */
 uint8_t sudolog_client(const uint8_t *s, size_t n, uint8_t *out, size_t room);
+
+#ifdef __cplusplus
+}
+#endif
+
+/* ---- second part: the messages as C structs ----
+ *
+ * Each message of sudo_logsrv.proto has a struct sudolog_NAME and three functions:
+ *
+ *   int  sudolog_read_NAME(m, n, &out)    0 and out filled, or refusal 2 to 7 and out untouched
+ *   int  sudolog_decode_NAME(m, n, &out)  the same without the ranges: 0, or refusal 2 to 6
+ *   void sudolog_get_NAME(m, n, &out)     fills out from a slice that was read already: a reader has
+ *                                         looked at all parts of its message, so a part needs no second
+ *                                         reading. Of other slices what is filled in has no meaning.
+ *
+ *   NAME            the message               NAME          the message
+ *   client_message  ClientMessage             io_buffer     IoBuffer
+ *   server_message  ServerMessage             window_size   ChangeWindowSize
+ *   accept          AcceptMessage             suspend       CommandSuspend
+ *   reject          RejectMessage             entry         InfoMessage
+ *   exit            ExitMessage               string_list   InfoMessage.StringList
+ *   restart         RestartMessage            number_list   InfoMessage.NumberList
+ *   alert           AlertMessage              time          TimeSpec
+ *   client_hello    ClientHello               server_hello  ServerHello
+ *
+ * (m, n) is the message without its frame's four bytes; m may be NULL where n is 0. Nothing is copied
+ * and nothing is allocated: strings, bytes and embedded messages come back as spans of the slice that
+ * was handed in, lists as small structs that point into it and are walked with a `next` function.
+ * "In range" beside a member is what sudolog_read_NAME takes; after sudolog_decode_NAME it may hold any
+ * value of its type.
+ *
+ *   struct sudolog_client_message message;
+ *   struct sudolog_accept accept;
+ *   struct sudolog_entry entry;
+ *   int refusal = sudolog_read_client_message(m, n, &message);
+ *   if (refusal == 0 && message.member == SUDOLOG_FROM_CLIENT_ACCEPT) {
+ *       const uint8_t *a = m + message.content.offset;
+ *       sudolog_get_accept(a, message.content.length, &accept);
+ *       while (sudolog_next_entry(&accept.entries, &entry))
+ *           print_key(a + entry.key.offset, entry.key.length);
+ *   }
+ */
+
+/* The bytes m[offset] to m[offset + length - 1] of the slice m that was handed in. What is absent has
+ * length 0, as what is there and empty: the protocol does not tell the two apart. */
+struct sudolog_span {
+    size_t offset;
+    size_t length;
+};
+
+/* TimeSpec. An absent one is 0 s 0 ns. It has no range of its own; the messages that hold it say theirs. */
+struct sudolog_time {
+    int64_t seconds;
+    int32_t nanoseconds;
+};
+
+/* What is left of a list of strings or messages. For the functions below only. */
+struct sudolog_parts {
+    const uint8_t *m;
+    size_t n;
+    size_t at;
+    uint64_t field;
+};
+
+/* What is left of a list: walk it with sudolog_next_string, sudolog_next_entry, sudolog_next_int64. To
+ * walk it twice, copy the struct first. It points into the slice, which must stay where it is. */
+struct sudolog_string_list {
+    struct sudolog_parts parts;
+};
+struct sudolog_entry_list {
+    struct sudolog_parts parts;
+};
+struct sudolog_number_list {
+    const uint8_t *m;
+    size_t n;
+    size_t at;  /* where the next number is looked for */
+    size_t end; /* where the packed part that `at` lies in ends */
+};
+
+/* What an entry's value is: the field number in InfoMessage. */
+enum sudolog_value {
+    SUDOLOG_VALUE_NONE = 0, /* refused by sudolog_read_entry (7), taken by sudolog_decode_entry */
+    SUDOLOG_VALUE_NUMBER = 2,
+    SUDOLOG_VALUE_STRING = 3,
+    SUDOLOG_VALUE_STRINGS = 4,
+    SUDOLOG_VALUE_NUMBERS = 5
+};
+
+/* One key and its value. */
+struct sudolog_entry {
+    struct sudolog_span key;   /* in range: not empty */
+    int kind;                  /* one of enum sudolog_value */
+    int64_t number;            /* of SUDOLOG_VALUE_NUMBER; otherwise 0 */
+    struct sudolog_span value; /* of a string its bytes; of a list what sudolog_get_string_list or
+                                  sudolog_get_number_list takes; otherwise length 0 */
+};
+
+struct sudolog_accept {
+    struct sudolog_time submit_time;   /* wall clock; in range: any seconds, 0 to 999,999,999 ns */
+    bool expect_iobufs;                /* absent: false */
+    struct sudolog_entry_list entries; /* info_msgs, each in range */
+};
+
+struct sudolog_reject {
+    struct sudolog_time submit_time; /* as of an accept */
+    struct sudolog_span reason;
+    struct sudolog_entry_list entries;
+};
+
+struct sudolog_alert {
+    struct sudolog_time alert_time; /* as an accept's submit_time */
+    struct sudolog_span reason;
+    struct sudolog_entry_list entries;
+};
+
+struct sudolog_exit {
+    struct sudolog_time run_time; /* in range: 0 to 4,294,967,295 s, 0 to 999,999,999 ns */
+    int32_t exit_value;           /* in range: 0 to 255; absent: 0 */
+    bool dumped_core;             /* absent: false */
+    struct sudolog_span signal;   /* the name without SIG; in range: at most 127 bytes */
+    struct sudolog_span error;
+};
+
+struct sudolog_restart {
+    struct sudolog_span log_id;       /* in range: 1 to 4,095 bytes */
+    struct sudolog_time resume_point; /* in range: as an exit's run_time */
+};
+
+struct sudolog_io_buffer {
+    struct sudolog_time delay; /* in range: as an exit's run_time */
+    struct sudolog_span data;
+};
+
+struct sudolog_window_size {
+    struct sudolog_time delay; /* in range: as an exit's run_time */
+    int32_t rows;              /* in range: 0 to 65,535; absent: 0 */
+    int32_t cols;              /* the same */
+};
+
+struct sudolog_suspend {
+    struct sudolog_time delay;  /* in range: as an exit's run_time */
+    struct sudolog_span signal; /* the name without SIG; in range: 1 to 127 bytes */
+};
+
+struct sudolog_client_hello {
+    struct sudolog_span client_id;
+};
+
+struct sudolog_server_hello {
+    struct sudolog_span server_id;
+    struct sudolog_span redirect;
+    struct sudolog_string_list servers;
+    bool subcommands; /* absent: false */
+};
+
+/* What a ClientMessage holds: the member's field number. */
+enum sudolog_from_client {
+    SUDOLOG_FROM_CLIENT_ACCEPT = 1,
+    SUDOLOG_FROM_CLIENT_REJECT = 2,
+    SUDOLOG_FROM_CLIENT_EXIT = 3,
+    SUDOLOG_FROM_CLIENT_RESTART = 4,
+    SUDOLOG_FROM_CLIENT_ALERT = 5,
+    SUDOLOG_FROM_CLIENT_TTYIN = 6, /* 6 to 10: an IoBuffer */
+    SUDOLOG_FROM_CLIENT_TTYOUT = 7,
+    SUDOLOG_FROM_CLIENT_STDIN = 8,
+    SUDOLOG_FROM_CLIENT_STDOUT = 9,
+    SUDOLOG_FROM_CLIENT_STDERR = 10,
+    SUDOLOG_FROM_CLIENT_WINDOW_SIZE = 11,
+    SUDOLOG_FROM_CLIENT_SUSPEND = 12,
+    SUDOLOG_FROM_CLIENT_HELLO = 13
+};
+
+/* What a ServerMessage holds: the member's field number. */
+enum sudolog_from_server {
+    SUDOLOG_FROM_SERVER_HELLO = 1,
+    SUDOLOG_FROM_SERVER_COMMIT_POINT = 2,
+    SUDOLOG_FROM_SERVER_LOG_ID = 3,
+    SUDOLOG_FROM_SERVER_ERROR = 4,
+    SUDOLOG_FROM_SERVER_ABORT = 5
+};
+
+struct sudolog_client_message {
+    int member;                  /* one of enum sudolog_from_client: the last one given */
+    struct sudolog_span content; /* the member's message: hand it to its sudolog_get_NAME */
+};
+
+struct sudolog_server_message {
+    int member;                       /* one of enum sudolog_from_server: the last one given */
+    struct sudolog_span content;      /* log_id, error, abort: the string; hello, commit_point: the message */
+    struct sudolog_time commit_point; /* of that member, in range as an exit's run_time; otherwise 0 s 0 ns */
+};
+
+/* A ClientMessage as sudolog_scan_client finds it. */
+struct sudolog_client_scan {
+    int member;                  /* as in sudolog_client_message */
+    struct sudolog_span content; /* as in sudolog_client_message */
+    struct sudolog_time delay;   /* of the members 6 to 10; otherwise 0 s 0 ns */
+    struct sudolog_span data;    /* of the members 6 to 10, a span of the whole slice; otherwise length 0 */
+};
+
+/* The eight bytes at p as a number, most significant byte first: how the library writes numbers. */
+static inline uint64_t sudolog_big_endian(const uint8_t *p)
+{
+    uint64_t number = 0;
+    int i;
+    for (i = 0; i < 8; i++)
+        number = number << 8 | p[i];
+    return number;
+}
+
+/* A pointer that the library may be handed: it takes no NULL, even with length 0. */
+static inline const uint8_t *sudolog_lend(const uint8_t *m)
+{
+    return m != NULL ? m : (const uint8_t *)"";
+}
+
+/* Two's complement by hand: C leaves the conversion of large numbers to the compiler. */
+static inline int64_t sudolog_int64(uint64_t bits)
+{
+    return bits <= INT64_MAX ? (int64_t)bits : -1 - (int64_t)(UINT64_MAX - bits);
+}
+
+static inline int32_t sudolog_int32(uint64_t bits)
+{
+    uint32_t low = (uint32_t)bits;
+    return low <= INT32_MAX ? (int32_t)low : -1 - (int32_t)(UINT32_MAX - low);
+}
+
+/* The frame at the start of s: the state, and in count the message's length (SUDOLOG_FRAME_WHOLE; it
+ * starts at s + 4), how many bytes are missing to the next decision (SUDOLOG_FRAME_WAIT), or 0. */
+static inline enum sudolog_frame sudolog_cut_frame(const uint8_t *s, size_t n, size_t *count)
+{
+    *count = (size_t)sudolog_frame_count(sudolog_lend(s), n);
+    return (enum sudolog_frame)sudolog_frame_state(sudolog_lend(s), n);
+}
+
+/* ---- fields of a message that was read ---- */
+
+static inline struct sudolog_span sudolog_field_span(uint64_t field, const uint8_t *m, size_t n)
+{
+    struct sudolog_span span;
+    span.offset = (size_t)sudolog_offset(field, m, n);
+    span.length = (size_t)sudolog_length(field, m, n);
+    return span;
+}
+
+static inline bool sudolog_field_flag(uint64_t field, const uint8_t *m, size_t n)
+{
+    return sudolog_number(field, m, n) != 0;
+}
+
+static inline struct sudolog_parts sudolog_field_parts(uint64_t field, const uint8_t *m, size_t n)
+{
+    struct sudolog_parts parts;
+    parts.m = m;
+    parts.n = n;
+    parts.at = 0;
+    parts.field = field;
+    return parts;
+}
+
+static inline void sudolog_get_time(const uint8_t *m, size_t n, struct sudolog_time *out)
+{
+    m = sudolog_lend(m);
+    out->seconds = sudolog_int64(sudolog_number(1, m, n));
+    out->nanoseconds = sudolog_int32(sudolog_number(2, m, n));
+}
+
+static inline struct sudolog_time sudolog_field_time(uint64_t field, const uint8_t *m, size_t n)
+{
+    struct sudolog_span span = sudolog_field_span(field, m, n);
+    struct sudolog_time moment;
+    sudolog_get_time(m + span.offset, span.length, &moment);
+    return moment;
+}
+
+/* ---- each message's fields ---- */
+
+static inline void sudolog_get_string_list(const uint8_t *m, size_t n, struct sudolog_string_list *out)
+{
+    out->parts = sudolog_field_parts(1, sudolog_lend(m), n);
+}
+
+static inline void sudolog_get_number_list(const uint8_t *m, size_t n, struct sudolog_number_list *out)
+{
+    out->m = sudolog_lend(m);
+    out->n = n;
+    out->at = 0;
+    out->end = 0;
+}
+
+static inline void sudolog_get_entry(const uint8_t *m, size_t n, struct sudolog_entry *out)
+{
+    uint64_t field;
+    m = sudolog_lend(m);
+    field = sudolog_member(SUDOLOG_INFO_MESSAGE, m, n);
+    out->key = sudolog_field_span(1, m, n);
+    out->kind = (int)field;
+    out->number = field == SUDOLOG_VALUE_NUMBER ? sudolog_int64(sudolog_number(field, m, n)) : 0;
+    out->value = sudolog_field_span(field, m, n);
+}
+
+static inline void sudolog_get_accept(const uint8_t *m, size_t n, struct sudolog_accept *out)
+{
+    m = sudolog_lend(m);
+    out->submit_time = sudolog_field_time(1, m, n);
+    out->entries.parts = sudolog_field_parts(2, m, n);
+    out->expect_iobufs = sudolog_field_flag(3, m, n);
+}
+
+static inline void sudolog_get_reject(const uint8_t *m, size_t n, struct sudolog_reject *out)
+{
+    m = sudolog_lend(m);
+    out->submit_time = sudolog_field_time(1, m, n);
+    out->reason = sudolog_field_span(2, m, n);
+    out->entries.parts = sudolog_field_parts(3, m, n);
+}
+
+static inline void sudolog_get_alert(const uint8_t *m, size_t n, struct sudolog_alert *out)
+{
+    m = sudolog_lend(m);
+    out->alert_time = sudolog_field_time(1, m, n);
+    out->reason = sudolog_field_span(2, m, n);
+    out->entries.parts = sudolog_field_parts(3, m, n);
+}
+
+static inline void sudolog_get_exit(const uint8_t *m, size_t n, struct sudolog_exit *out)
+{
+    m = sudolog_lend(m);
+    out->run_time = sudolog_field_time(1, m, n);
+    out->exit_value = sudolog_int32(sudolog_number(2, m, n));
+    out->dumped_core = sudolog_field_flag(3, m, n);
+    out->signal = sudolog_field_span(4, m, n);
+    out->error = sudolog_field_span(5, m, n);
+}
+
+static inline void sudolog_get_restart(const uint8_t *m, size_t n, struct sudolog_restart *out)
+{
+    m = sudolog_lend(m);
+    out->log_id = sudolog_field_span(1, m, n);
+    out->resume_point = sudolog_field_time(2, m, n);
+}
+
+static inline void sudolog_get_io_buffer(const uint8_t *m, size_t n, struct sudolog_io_buffer *out)
+{
+    m = sudolog_lend(m);
+    out->delay = sudolog_field_time(1, m, n);
+    out->data = sudolog_field_span(2, m, n);
+}
+
+static inline void sudolog_get_window_size(const uint8_t *m, size_t n, struct sudolog_window_size *out)
+{
+    m = sudolog_lend(m);
+    out->delay = sudolog_field_time(1, m, n);
+    out->rows = sudolog_int32(sudolog_number(2, m, n));
+    out->cols = sudolog_int32(sudolog_number(3, m, n));
+}
+
+static inline void sudolog_get_suspend(const uint8_t *m, size_t n, struct sudolog_suspend *out)
+{
+    m = sudolog_lend(m);
+    out->delay = sudolog_field_time(1, m, n);
+    out->signal = sudolog_field_span(2, m, n);
+}
+
+static inline void sudolog_get_client_hello(const uint8_t *m, size_t n, struct sudolog_client_hello *out)
+{
+    out->client_id = sudolog_field_span(1, sudolog_lend(m), n);
+}
+
+static inline void sudolog_get_server_hello(const uint8_t *m, size_t n, struct sudolog_server_hello *out)
+{
+    m = sudolog_lend(m);
+    out->server_id = sudolog_field_span(1, m, n);
+    out->redirect = sudolog_field_span(2, m, n);
+    out->servers.parts = sudolog_field_parts(3, m, n);
+    out->subcommands = sudolog_field_flag(4, m, n);
+}
+
+static inline void sudolog_get_client_message(const uint8_t *m, size_t n, struct sudolog_client_message *out)
+{
+    uint64_t field;
+    m = sudolog_lend(m);
+    field = sudolog_member(SUDOLOG_CLIENT_MESSAGE, m, n);
+    out->member = (int)field;
+    out->content = sudolog_field_span(field, m, n);
+}
+
+static inline void sudolog_get_server_message(const uint8_t *m, size_t n, struct sudolog_server_message *out)
+{
+    bool committed;
+    uint64_t field;
+    m = sudolog_lend(m);
+    field = sudolog_member(SUDOLOG_SERVER_MESSAGE, m, n);
+    committed = field == SUDOLOG_FROM_SERVER_COMMIT_POINT;
+    out->member = (int)field;
+    out->content = sudolog_field_span(field, m, n);
+    sudolog_get_time(m + out->content.offset, committed ? out->content.length : 0, &out->commit_point);
+}
+
+/* ---- reading: sudolog_decode_NAME and sudolog_read_NAME of every message ---- */
+
+#define SUDOLOG_READERS(NAME, MESSAGE)                                                                      \
+    static inline int sudolog_decode_##NAME(const uint8_t *m, size_t n, struct sudolog_##NAME *out)         \
+    {                                                                                                       \
+        int refusal = sudolog_decode(MESSAGE, sudolog_lend(m), n);                                          \
+        if (refusal == 0)                                                                                   \
+            sudolog_get_##NAME(m, n, out);                                                                  \
+        return refusal;                                                                                     \
+    }                                                                                                       \
+    static inline int sudolog_read_##NAME(const uint8_t *m, size_t n, struct sudolog_##NAME *out)           \
+    {                                                                                                       \
+        int refusal = sudolog_read(MESSAGE, sudolog_lend(m), n);                                            \
+        if (refusal == 0)                                                                                   \
+            sudolog_get_##NAME(m, n, out);                                                                  \
+        return refusal;                                                                                     \
+    }
+
+SUDOLOG_READERS(client_message, SUDOLOG_CLIENT_MESSAGE)
+SUDOLOG_READERS(server_message, SUDOLOG_SERVER_MESSAGE)
+SUDOLOG_READERS(accept, SUDOLOG_ACCEPT_MESSAGE)
+SUDOLOG_READERS(reject, SUDOLOG_REJECT_MESSAGE)
+SUDOLOG_READERS(exit, SUDOLOG_EXIT_MESSAGE)
+SUDOLOG_READERS(restart, SUDOLOG_RESTART_MESSAGE)
+SUDOLOG_READERS(alert, SUDOLOG_ALERT_MESSAGE)
+SUDOLOG_READERS(io_buffer, SUDOLOG_IO_BUFFER)
+SUDOLOG_READERS(window_size, SUDOLOG_CHANGE_WINDOW_SIZE)
+SUDOLOG_READERS(suspend, SUDOLOG_COMMAND_SUSPEND)
+SUDOLOG_READERS(client_hello, SUDOLOG_CLIENT_HELLO)
+SUDOLOG_READERS(server_hello, SUDOLOG_SERVER_HELLO)
+SUDOLOG_READERS(entry, SUDOLOG_INFO_MESSAGE)
+SUDOLOG_READERS(string_list, SUDOLOG_STRING_LIST)
+SUDOLOG_READERS(number_list, SUDOLOG_NUMBER_LIST)
+SUDOLOG_READERS(time, SUDOLOG_TIME_SPEC)
+
+#undef SUDOLOG_READERS
+
+/* A ClientMessage in one walk over its bytes, for a collector's main loop: 0 and out filled, or refusal 2
+ * to 6 and out untouched, as sudolog_decode_client_message. Ranges are not looked at: a delay may be
+ * negative here. */
+static inline int sudolog_scan_client(const uint8_t *m, size_t n, struct sudolog_client_scan *out)
+{
+    uint8_t numbers[56];
+    int refusal = sudolog_client(sudolog_lend(m), n, numbers, sizeof numbers);
+    if (refusal != 0)
+        return refusal;
+    out->member = (int)sudolog_big_endian(numbers);
+    out->content.offset = (size_t)sudolog_big_endian(numbers + 8);
+    out->content.length = (size_t)sudolog_big_endian(numbers + 16);
+    out->delay.seconds = sudolog_int64(sudolog_big_endian(numbers + 24));
+    out->delay.nanoseconds = sudolog_int32(sudolog_big_endian(numbers + 32));
+    out->data.offset = (size_t)sudolog_big_endian(numbers + 40);
+    out->data.length = (size_t)sudolog_big_endian(numbers + 48);
+    return 0;
+}
+
+/* ---- walking lists: 1 and the next element in out, or 0 and out untouched where none is left ---- */
+
+static inline int sudolog_next_part(struct sudolog_parts *left, struct sudolog_span *out)
+{
+    uint64_t offset = sudolog_next_offset(left->field, left->m, left->n, left->at);
+    if (offset == UINT64_MAX)
+        return 0;
+    out->offset = (size_t)offset;
+    out->length = (size_t)sudolog_next_length(left->field, left->m, left->n, left->at);
+    left->at = out->offset + out->length;
+    return 1;
+}
+
+/* out is a span of the slice that the list was read from: the StringList's, or the ServerHello's. */
+static inline int sudolog_next_string(struct sudolog_string_list *left, struct sudolog_span *out)
+{
+    return sudolog_next_part(&left->parts, out);
+}
+
+/* The entry's spans are spans of the accept, reject or alert that the list was read from. */
+static inline int sudolog_next_entry(struct sudolog_entry_list *left, struct sudolog_entry *out)
+{
+    struct sudolog_span part;
+    if (!sudolog_next_part(&left->parts, &part))
+        return 0;
+    sudolog_get_entry(left->parts.m + part.offset, part.length, out);
+    out->key.offset += part.offset;
+    out->value.offset += part.offset;
+    return 1;
+}
+
+static inline int sudolog_next_int64(struct sudolog_number_list *left, int64_t *out)
+{
+    uint8_t numbers[24];
+    if (sudolog_next_number(left->m, left->n, left->at, left->end, numbers, sizeof numbers) != 1)
+        return 0;
+    *out = sudolog_int64(sudolog_big_endian(numbers));
+    left->at = (size_t)sudolog_big_endian(numbers + 8);
+    left->end = (size_t)sudolog_big_endian(numbers + 16);
+    return 1;
+}
+
+#endif

@@ -1,0 +1,730 @@
+/*
+ * api.c: include/sudolog.h as a C program uses it. Prints a line for each check that fails and at the end
+ * 'N passed, M failed'; exit status 1 on a failure.
+ *
+ * In the order of the header's parts: frames, the marked examples of the scope document, each message's
+ * reader, lists, refusals and what they leave untouched.
+ */
+#include "sudolog.h"
+
+#include <stdio.h>
+#include <stdlib.h>
+#include <string.h>
+
+static int passed, failed;
+
+static void check(bool holds, const char *what, const char *where, int line)
+{
+    if (holds) {
+        passed++;
+        return;
+    }
+    failed++;
+    printf("api.c:%d: %s: %s\n", line, where, what);
+}
+
+#define CHECK(WHAT) check((WHAT), #WHAT, __func__, __LINE__)
+
+struct slice {
+    const uint8_t *m;
+    size_t n;
+};
+
+static struct slice slice_of(const char *text, size_t n)
+{
+    struct slice s;
+    s.m = (const uint8_t *)text;
+    s.n = n;
+    return s;
+}
+
+/* The bytes of a string literal without its closing zero. */
+#define BYTES(TEXT) slice_of(TEXT, sizeof(TEXT) - 1)
+
+/* The number -1 as a varint. */
+#define MINUS_ONE "\xFF\xFF\xFF\xFF\xFF\xFF\xFF\xFF\xFF\x01"
+
+static struct slice part(struct slice s, struct sudolog_span span)
+{
+    s.m += span.offset;
+    s.n = span.length;
+    return s;
+}
+
+static bool is_text(struct slice s, struct sudolog_span span, const char *text)
+{
+    return span.length == strlen(text) && memcmp(s.m + span.offset, text, span.length) == 0;
+}
+
+static bool is_time(struct sudolog_time moment, int64_t seconds, int32_t nanoseconds)
+{
+    return moment.seconds == seconds && moment.nanoseconds == nanoseconds;
+}
+
+/* A reader that refuses: the number, and no byte of the struct changed. */
+#define REFUSED(READER, NAME, IN, REFUSAL)                                                                  \
+    do {                                                                                                    \
+        struct slice refused_in = IN;                                                                       \
+        struct sudolog_##NAME out, before;                                                                  \
+        memset(&out, 0xA5, sizeof out);                                                                     \
+        memset(&before, 0xA5, sizeof before);                                                               \
+        CHECK(sudolog_##READER(refused_in.m, refused_in.n, &out) == (REFUSAL));                             \
+        CHECK(memcmp(&out, &before, sizeof out) == 0);                                                      \
+    } while (0)
+
+/* Out of range: sudolog_read_NAME refuses with 7 what sudolog_decode_NAME takes. */
+#define OUT_OF_RANGE(NAME, IN)                                                                              \
+    do {                                                                                                    \
+        struct slice ranged_in = IN;                                                                        \
+        struct sudolog_##NAME taken;                                                                        \
+        CHECK(sudolog_decode_##NAME(ranged_in.m, ranged_in.n, &taken) == 0);                                \
+        REFUSED(read_##NAME, NAME, ranged_in, 7);                                                           \
+    } while (0)
+
+/* ---- frames ---- */
+
+#define LARGEST 2097152
+
+static bool cuts(const uint8_t *s, size_t n, enum sudolog_frame state, size_t count)
+{
+    size_t got = 99;
+    return sudolog_cut_frame(s, n, &got) == state && got == count;
+}
+
+static void short_frames(void)
+{
+    struct slice empty = BYTES("\0\0\0\0\x3A");
+    struct slice one = BYTES("\0\0\0\1\x3A\x3A");
+    size_t n;
+    CHECK(cuts(NULL, 0, SUDOLOG_FRAME_WAIT, 4));
+    for (n = 0; n < 4; n++)
+        CHECK(cuts(empty.m, n, SUDOLOG_FRAME_WAIT, 4 - n));
+    CHECK(cuts(empty.m, 4, SUDOLOG_FRAME_WHOLE, 0));
+    CHECK(cuts(empty.m, 5, SUDOLOG_FRAME_WHOLE, 0));
+    CHECK(cuts(one.m, 4, SUDOLOG_FRAME_WAIT, 1));
+    CHECK(cuts(one.m, 5, SUDOLOG_FRAME_WHOLE, 1));
+    CHECK(cuts(one.m, 6, SUDOLOG_FRAME_WHOLE, 1));
+}
+
+static void longest_frames(void)
+{
+    uint8_t *s = (uint8_t *)calloc(1, 4 + LARGEST + 2);
+    CHECK(s != NULL);
+    if (s == NULL)
+        return;
+    memcpy(s, "\x00\x20\x00\x00", 4);
+    CHECK(cuts(s, 3, SUDOLOG_FRAME_WAIT, 1));
+    CHECK(cuts(s, 4, SUDOLOG_FRAME_WAIT, LARGEST));
+    CHECK(cuts(s, 4 + LARGEST - 1, SUDOLOG_FRAME_WAIT, 1));
+    CHECK(cuts(s, 4 + LARGEST, SUDOLOG_FRAME_WHOLE, LARGEST));
+    CHECK(cuts(s, 4 + LARGEST + 1, SUDOLOG_FRAME_WHOLE, LARGEST));
+    memcpy(s, "\x00\x20\x00\x01", 4);
+    CHECK(cuts(s, 3, SUDOLOG_FRAME_WAIT, 1));
+    CHECK(cuts(s, 4, SUDOLOG_FRAME_REFUSED, 0));
+    CHECK(cuts(s, 5, SUDOLOG_FRAME_REFUSED, 0));
+    CHECK(cuts(s, 4 + LARGEST + 1, SUDOLOG_FRAME_REFUSED, 0));
+    memcpy(s, "\xFF\xFF\xFF\xFF", 4);
+    CHECK(cuts(s, 4, SUDOLOG_FRAME_REFUSED, 0));
+    free(s);
+}
+
+/* ---- the marked examples that speak of reading ---- */
+
+static void example_1_time(void)
+{
+    struct slice in = BYTES("\x08\x05\x10\x80\xE5\x9A\x77");
+    struct sudolog_time moment;
+    CHECK(sudolog_read_time(in.m, in.n, &moment) == 0);
+    CHECK(is_time(moment, 5, 250000000));
+}
+
+static void example_2_ttyout(void)
+{
+    struct slice frame = BYTES("\x00\x00\x00\x0A\x3A\x08\x0A\x02\x08\x01\x12\x02hi");
+    struct slice in = slice_of((const char *)frame.m + 4, 10);
+    struct sudolog_client_message message;
+    struct sudolog_io_buffer buffer;
+    struct slice content;
+    CHECK(cuts(frame.m, frame.n, SUDOLOG_FRAME_WHOLE, 10));
+    CHECK(sudolog_read_client_message(in.m, in.n, &message) == 0);
+    CHECK(message.member == SUDOLOG_FROM_CLIENT_TTYOUT);
+    CHECK(message.content.offset == 2 && message.content.length == 8);
+    content = part(in, message.content);
+    sudolog_get_io_buffer(content.m, content.n, &buffer);
+    CHECK(is_time(buffer.delay, 1, 0));
+    CHECK(is_text(content, buffer.data, "hi"));
+}
+
+static void example_4_int64(void)
+{
+    struct slice minus = BYTES("\x08" MINUS_ONE);
+    struct slice least = BYTES("\x08\x80\x80\x80\x80\x80\x80\x80\x80\x80\x01");
+    struct slice greatest = BYTES("\x08\xFF\xFF\xFF\xFF\xFF\xFF\xFF\xFF\x7F");
+    struct sudolog_time moment;
+    CHECK(sudolog_read_time(minus.m, minus.n, &moment) == 0 && is_time(moment, -1, 0));
+    CHECK(sudolog_read_time(least.m, least.n, &moment) == 0 && is_time(moment, INT64_MIN, 0));
+    CHECK(sudolog_read_time(greatest.m, greatest.n, &moment) == 0 && is_time(moment, INT64_MAX, 0));
+}
+
+static void example_5_int32(void)
+{
+    struct slice in = BYTES("\x10\x80\x80\x80\x80\x10");
+    struct sudolog_exit message;
+    CHECK(sudolog_read_exit(in.m, in.n, &message) == 0);
+    CHECK(message.exit_value == 0);
+}
+
+static void example_6_commit_point(void)
+{
+    struct slice frame = BYTES("\x00\x00\x00\x04\x12\x02\x08\x01");
+    struct sudolog_server_message message;
+    CHECK(cuts(frame.m, frame.n, SUDOLOG_FRAME_WHOLE, 4));
+    CHECK(sudolog_read_server_message(frame.m + 4, 4, &message) == 0);
+    CHECK(message.member == SUDOLOG_FROM_SERVER_COMMIT_POINT);
+    CHECK(is_time(message.commit_point, 1, 0));
+}
+
+/* ---- entries and lists ---- */
+
+static void entry_values(void)
+{
+    struct slice number = BYTES("\x0A\x03uid\x10" MINUS_ONE);
+    struct slice string = BYTES("\x0A\x03tty\x1A\x04pts0");
+    struct slice strings = BYTES("\x0A\x04" "argv\x22\x05\x0A\x01" "a\x0A\x00");
+    struct slice numbers = BYTES("\x0A\x04gids\x2A\x04\x0A\x02\x01\x02");
+    struct sudolog_entry entry;
+    CHECK(sudolog_read_entry(number.m, number.n, &entry) == 0);
+    CHECK(is_text(number, entry.key, "uid") && entry.kind == SUDOLOG_VALUE_NUMBER);
+    CHECK(entry.number == -1 && entry.value.length == 0);
+    CHECK(sudolog_read_entry(string.m, string.n, &entry) == 0);
+    CHECK(is_text(string, entry.key, "tty") && entry.kind == SUDOLOG_VALUE_STRING);
+    CHECK(is_text(string, entry.value, "pts0") && entry.number == 0);
+    CHECK(sudolog_read_entry(strings.m, strings.n, &entry) == 0);
+    CHECK(entry.kind == SUDOLOG_VALUE_STRINGS && entry.value.length == 5 && entry.number == 0);
+    CHECK(sudolog_read_entry(numbers.m, numbers.n, &entry) == 0);
+    CHECK(entry.kind == SUDOLOG_VALUE_NUMBERS && entry.value.length == 4 && entry.number == 0);
+}
+
+static void entry_last_value_counts(void)
+{
+    struct slice in = BYTES("\x0A\x01k\x10\x07\x1A\x01s\x2A\x00\x1A\x01t");
+    struct slice number = BYTES("\x0A\x01j\x1A\x01s\x10\x07\x0A\x01k");
+    struct sudolog_entry entry;
+    CHECK(sudolog_read_entry(in.m, in.n, &entry) == 0);
+    CHECK(entry.kind == SUDOLOG_VALUE_STRING && entry.number == 0 && is_text(in, entry.value, "t"));
+    CHECK(sudolog_read_entry(number.m, number.n, &entry) == 0);
+    CHECK(entry.kind == SUDOLOG_VALUE_NUMBER && entry.number == 7 && entry.value.length == 0);
+    CHECK(is_text(number, entry.key, "k"));
+}
+
+static void entry_without_value(void)
+{
+    struct slice in = BYTES("\x0A\x07ttyname");
+    struct sudolog_entry entry;
+    CHECK(sudolog_decode_entry(in.m, in.n, &entry) == 0);
+    CHECK(entry.kind == SUDOLOG_VALUE_NONE && is_text(in, entry.key, "ttyname"));
+    CHECK(entry.value.length == 0 && entry.number == 0);
+    REFUSED(read_entry, entry, in, 7);
+}
+
+static void strings_in_order(void)
+{
+    struct slice in = BYTES("\x0A\x02" "ab\x78\x05\x0A\x00\x0A\x01" "c\x7A\x01x\x0A\x00");
+    struct sudolog_string_list list, again;
+    struct sudolog_span string;
+    CHECK(sudolog_read_string_list(in.m, in.n, &list) == 0);
+    again = list;
+    CHECK(sudolog_next_string(&list, &string) == 1 && is_text(in, string, "ab"));
+    CHECK(sudolog_next_string(&list, &string) == 1 && is_text(in, string, ""));
+    CHECK(sudolog_next_string(&list, &string) == 1 && is_text(in, string, "c"));
+    CHECK(sudolog_next_string(&list, &string) == 1 && is_text(in, string, ""));
+    CHECK(sudolog_next_string(&list, &string) == 0);
+    CHECK(sudolog_next_string(&list, &string) == 0);
+    CHECK(sudolog_next_string(&again, &string) == 1 && is_text(in, string, "ab"));
+}
+
+static bool numbers_are(struct slice in, const int64_t *expected, size_t count)
+{
+    struct sudolog_number_list list;
+    int64_t number = 99;
+    size_t i;
+    if (sudolog_read_number_list(in.m, in.n, &list) != 0)
+        return false;
+    for (i = 0; i < count; i++)
+        if (sudolog_next_int64(&list, &number) != 1 || number != expected[i])
+            return false;
+    number = 99;
+    return sudolog_next_int64(&list, &number) == 0 && sudolog_next_int64(&list, &number) == 0 && number == 99;
+}
+
+static void numbers_in_order(void)
+{
+    static const int64_t expected[] = { 1, 300, -1, 0 };
+    CHECK(numbers_are(BYTES(""), expected, 0));
+    CHECK(numbers_are(BYTES("\x0A\x00"), expected, 0));
+    CHECK(numbers_are(BYTES("\x0A\x00\x78\x05\x0A\x00"), expected, 0));
+    CHECK(numbers_are(BYTES("\x08\x01\x08\xAC\x02\x08" MINUS_ONE "\x08\x00"), expected, 4));
+    CHECK(numbers_are(BYTES("\x0A\x0E\x01\xAC\x02" MINUS_ONE "\x00"), expected, 4));
+    CHECK(numbers_are(BYTES("\x0A\x03\x01\xAC\x02\x0A\x0B" MINUS_ONE "\x00"), expected, 4));
+    CHECK(numbers_are(BYTES("\x08\x01\x0A\x00\x0A\x0C\xAC\x02" MINUS_ONE "\x78\x05\x08\x00"), expected, 4));
+    CHECK(numbers_are(BYTES("\x7A\x02\x08\x07\x0A\x01\x01\x08\xAC\x02"), expected, 2));
+}
+
+/* ---- the messages ---- */
+
+static void check_two_entries(struct slice in, struct sudolog_entry_list entries)
+{
+    struct sudolog_entry entry;
+    struct sudolog_string_list strings;
+    struct sudolog_span string;
+    struct slice list;
+    CHECK(sudolog_next_entry(&entries, &entry) == 1);
+    CHECK(is_text(in, entry.key, "k") && entry.kind == SUDOLOG_VALUE_STRING && is_text(in, entry.value, "v"));
+    CHECK(sudolog_next_entry(&entries, &entry) == 1);
+    CHECK(is_text(in, entry.key, "argv") && entry.kind == SUDOLOG_VALUE_STRINGS);
+    list = part(in, entry.value);
+    sudolog_get_string_list(list.m, list.n, &strings);
+    CHECK(sudolog_next_string(&strings, &string) == 1 && is_text(list, string, "ls"));
+    CHECK(sudolog_next_string(&strings, &string) == 0);
+    CHECK(sudolog_next_entry(&entries, &entry) == 0);
+}
+
+static void accept_fields(void)
+{
+    struct slice in = BYTES("\x0A\x04\x08\x05\x10\x07\x12\x06\x0A\x01k\x1A\x01v\x78\x01\x18\x02"
+                            "\x12\x0C\x0A\x04" "argv\x22\x04\x0A\x02ls");
+    struct sudolog_accept accept;
+    CHECK(sudolog_read_accept(in.m, in.n, &accept) == 0);
+    CHECK(is_time(accept.submit_time, 5, 7));
+    CHECK(accept.expect_iobufs == true);
+    check_two_entries(in, accept.entries);
+}
+
+static void reject_fields(void)
+{
+    struct slice in = BYTES("\x0A\x02\x08\x05\x12\x02no"
+                            "\x1A\x06\x0A\x01k\x1A\x01v\x1A\x0C\x0A\x04" "argv\x22\x04\x0A\x02ls");
+    struct sudolog_reject reject;
+    CHECK(sudolog_read_reject(in.m, in.n, &reject) == 0);
+    CHECK(is_time(reject.submit_time, 5, 0));
+    CHECK(is_text(in, reject.reason, "no"));
+    check_two_entries(in, reject.entries);
+}
+
+static void alert_fields(void)
+{
+    struct slice in = BYTES("\x0A\x0B\x08" MINUS_ONE "\x12\x02no"
+                            "\x1A\x06\x0A\x01k\x1A\x01v\x1A\x0C\x0A\x04" "argv\x22\x04\x0A\x02ls");
+    struct sudolog_alert alert;
+    CHECK(sudolog_read_alert(in.m, in.n, &alert) == 0);
+    CHECK(is_time(alert.alert_time, -1, 0));
+    CHECK(is_text(in, alert.reason, "no"));
+    check_two_entries(in, alert.entries);
+}
+
+static void exit_fields(void)
+{
+    struct slice in = BYTES("\x0A\x04\x08\x05\x10\x07\x10\xFF\x01\x18\x01\x22\x04KILL\x2A\x02no");
+    struct sudolog_exit message;
+    CHECK(sudolog_read_exit(in.m, in.n, &message) == 0);
+    CHECK(is_time(message.run_time, 5, 7));
+    CHECK(message.exit_value == 255 && message.dumped_core == true);
+    CHECK(is_text(in, message.signal, "KILL"));
+    CHECK(is_text(in, message.error, "no"));
+}
+
+static void restart_fields(void)
+{
+    struct slice in = BYTES("\x0A\x02id\x12\x07\x08\x05\x10\x80\xE5\x9A\x77");
+    struct sudolog_restart restart;
+    CHECK(sudolog_read_restart(in.m, in.n, &restart) == 0);
+    CHECK(is_text(in, restart.log_id, "id"));
+    CHECK(is_time(restart.resume_point, 5, 250000000));
+}
+
+static void timed_fields(void)
+{
+    struct slice io = BYTES("\x0A\x02\x10\x07\x12\x03\x00\xFF\n");
+    struct slice window = BYTES("\x0A\x02\x08\x01\x10\xFF\xFF\x03\x18\x50");
+    struct slice suspend = BYTES("\x0A\x02\x08\x01\x12\x04TSTP");
+    struct sudolog_io_buffer buffer;
+    struct sudolog_window_size size;
+    struct sudolog_suspend stopped;
+    CHECK(sudolog_read_io_buffer(io.m, io.n, &buffer) == 0);
+    CHECK(is_time(buffer.delay, 0, 7));
+    CHECK(buffer.data.offset == 6 && buffer.data.length == 3);
+    CHECK(sudolog_read_window_size(window.m, window.n, &size) == 0);
+    CHECK(is_time(size.delay, 1, 0) && size.rows == 65535 && size.cols == 80);
+    CHECK(sudolog_read_suspend(suspend.m, suspend.n, &stopped) == 0);
+    CHECK(is_time(stopped.delay, 1, 0) && is_text(suspend, stopped.signal, "TSTP"));
+}
+
+static void hello_fields(void)
+{
+    struct slice client = BYTES("\x0A\x04sudo");
+    struct slice server = BYTES("\x0A\x01s\x12\x01r\x1A\x01" "a\x20\x01\x1A\x01" "b");
+    struct sudolog_client_hello from_client;
+    struct sudolog_server_hello from_server;
+    struct sudolog_span name;
+    CHECK(sudolog_read_client_hello(client.m, client.n, &from_client) == 0);
+    CHECK(is_text(client, from_client.client_id, "sudo"));
+    CHECK(sudolog_read_server_hello(server.m, server.n, &from_server) == 0);
+    CHECK(is_text(server, from_server.server_id, "s") && is_text(server, from_server.redirect, "r"));
+    CHECK(from_server.subcommands == true);
+    CHECK(sudolog_next_string(&from_server.servers, &name) == 1 && is_text(server, name, "a"));
+    CHECK(sudolog_next_string(&from_server.servers, &name) == 1 && is_text(server, name, "b"));
+    CHECK(sudolog_next_string(&from_server.servers, &name) == 0);
+}
+
+static void server_members(void)
+{
+    struct slice log_id = BYTES("\x12\x02\x08\x05\x1A\x02id");
+    struct slice hello = BYTES("\x22\x01" "e\x2A\x01" "a\x0A\x03\x0A\x01s");
+    struct slice error = BYTES("\x22\x01" "e");
+    struct slice end = BYTES("\x2A\x00");
+    struct sudolog_server_message message;
+    CHECK(sudolog_read_server_message(log_id.m, log_id.n, &message) == 0);
+    CHECK(message.member == SUDOLOG_FROM_SERVER_LOG_ID && is_text(log_id, message.content, "id"));
+    CHECK(is_time(message.commit_point, 0, 0));
+    CHECK(sudolog_read_server_message(hello.m, hello.n, &message) == 0);
+    CHECK(message.member == SUDOLOG_FROM_SERVER_HELLO);
+    CHECK(message.content.offset == 8 && message.content.length == 3);
+    CHECK(sudolog_read_server_message(error.m, error.n, &message) == 0);
+    CHECK(message.member == SUDOLOG_FROM_SERVER_ERROR && is_text(error, message.content, "e"));
+    CHECK(sudolog_read_server_message(end.m, end.n, &message) == 0);
+    CHECK(message.member == SUDOLOG_FROM_SERVER_ABORT && message.content.length == 0);
+}
+
+/* Every member 1 to 13 with an empty message, read and scanned. */
+static void client_members(void)
+{
+    uint8_t m[2] = { 0, 0 };
+    struct sudolog_client_message message;
+    struct sudolog_client_scan scan;
+    int member;
+    for (member = 1; member <= SUDOLOG_FROM_CLIENT_HELLO; member++) {
+        m[0] = (uint8_t)(member * 8 + 2);
+        CHECK(sudolog_decode_client_message(m, 2, &message) == 0);
+        CHECK(message.member == member && message.content.length == 0);
+        CHECK(sudolog_scan_client(m, 2, &scan) == 0);
+        CHECK(scan.member == member && scan.content.length == 0);
+        CHECK(is_time(scan.delay, 0, 0) && scan.data.length == 0);
+    }
+}
+
+static void scan_finds_delay_and_data(void)
+{
+    struct slice in = BYTES("\x6A\x00\x52\x0C\x0A\x04\x08\x05\x10\x07\x12\x04" "data\x78\x00");
+    struct slice size = BYTES("\x5A\x04\x0A\x02\x08\x05");
+    struct slice past = BYTES("\x3A\x0D\x0A\x0B\x10" MINUS_ONE);
+    struct sudolog_client_scan scan;
+    CHECK(sudolog_scan_client(in.m, in.n, &scan) == 0);
+    CHECK(scan.member == SUDOLOG_FROM_CLIENT_STDERR);
+    CHECK(scan.content.offset == 4 && scan.content.length == 12);
+    CHECK(is_time(scan.delay, 5, 7) && is_text(in, scan.data, "data"));
+    CHECK(sudolog_scan_client(size.m, size.n, &scan) == 0);
+    CHECK(scan.member == SUDOLOG_FROM_CLIENT_WINDOW_SIZE);
+    CHECK(is_time(scan.delay, 0, 0) && scan.data.length == 0);
+    CHECK(sudolog_scan_client(past.m, past.n, &scan) == 0);
+    CHECK(is_time(scan.delay, 0, -1));
+}
+
+static void last_one_counts(void)
+{
+    struct slice io = BYTES("\x0A\x04\x08\x05\x10\x07\x12\x01" "a\x0A\x02\x10\x02\x12\x01" "b");
+    struct slice size = BYTES("\x10\x01\x10\x02\x18\x03\x10\x04");
+    struct slice client = BYTES("\x3A\x03\x12\x01" "a\x6A\x00\x3A\x02\x0A\x00");
+    struct sudolog_io_buffer buffer;
+    struct sudolog_window_size window;
+    struct sudolog_client_message message;
+    CHECK(sudolog_read_io_buffer(io.m, io.n, &buffer) == 0);
+    CHECK(is_time(buffer.delay, 0, 2)); /* the earlier delay's seconds are not merged in */
+    CHECK(is_text(io, buffer.data, "b"));
+    CHECK(sudolog_read_window_size(size.m, size.n, &window) == 0);
+    CHECK(window.rows == 4 && window.cols == 3);
+    CHECK(sudolog_read_client_message(client.m, client.n, &message) == 0);
+    CHECK(message.member == SUDOLOG_FROM_CLIENT_TTYOUT);
+    CHECK(message.content.offset == 9 && message.content.length == 2);
+}
+
+static void longer_forms_are_read(void)
+{
+    struct sudolog_io_buffer buffer;
+    struct slice in = BYTES("\x92\x80\x80\x80\x80\x80\x80\x80\x80\x00\x81\x80\x00x\x8A\x00\x83\x00\x08\x81\x00");
+    CHECK(sudolog_read_io_buffer(in.m, in.n, &buffer) == 0);
+    CHECK(is_time(buffer.delay, 1, 0) && is_text(in, buffer.data, "x"));
+}
+
+/* ---- absent fields ---- */
+
+#define EMPTY(NAME, OUT)                                                                                    \
+    memset(&(OUT), 0xA5, sizeof(OUT));                                                                      \
+    CHECK(sudolog_decode_##NAME(NULL, 0, &(OUT)) == 0)
+
+static void absent_fields(void)
+{
+    struct sudolog_accept accept;
+    struct sudolog_exit ended;
+    struct sudolog_restart restart;
+    struct sudolog_window_size size;
+    struct sudolog_entry entry;
+    struct sudolog_time moment;
+    EMPTY(accept, accept);
+    CHECK(is_time(accept.submit_time, 0, 0) && accept.expect_iobufs == false);
+    CHECK(sudolog_next_entry(&accept.entries, &entry) == 0);
+    EMPTY(exit, ended);
+    CHECK(is_time(ended.run_time, 0, 0) && ended.exit_value == 0 && ended.dumped_core == false);
+    CHECK(ended.signal.length == 0 && ended.error.length == 0);
+    EMPTY(restart, restart);
+    CHECK(restart.log_id.length == 0 && is_time(restart.resume_point, 0, 0));
+    EMPTY(window_size, size);
+    CHECK(is_time(size.delay, 0, 0) && size.rows == 0 && size.cols == 0);
+    EMPTY(entry, entry);
+    CHECK(entry.key.length == 0 && entry.kind == SUDOLOG_VALUE_NONE && entry.value.length == 0);
+    EMPTY(time, moment);
+    CHECK(is_time(moment, 0, 0));
+}
+
+static void absent_spans_and_lists(void)
+{
+    struct sudolog_reject reject;
+    struct sudolog_alert alert;
+    struct sudolog_io_buffer buffer;
+    struct sudolog_suspend suspend;
+    struct sudolog_client_hello client;
+    struct sudolog_server_hello server;
+    struct sudolog_string_list strings;
+    struct sudolog_number_list numbers;
+    struct sudolog_entry entry;
+    struct sudolog_span string;
+    int64_t number;
+    EMPTY(reject, reject);
+    CHECK(reject.reason.length == 0 && sudolog_next_entry(&reject.entries, &entry) == 0);
+    EMPTY(alert, alert);
+    CHECK(alert.reason.length == 0 && sudolog_next_entry(&alert.entries, &entry) == 0);
+    EMPTY(io_buffer, buffer);
+    CHECK(is_time(buffer.delay, 0, 0) && buffer.data.length == 0);
+    EMPTY(suspend, suspend);
+    CHECK(is_time(suspend.delay, 0, 0) && suspend.signal.length == 0);
+    EMPTY(client_hello, client);
+    CHECK(client.client_id.length == 0);
+    EMPTY(server_hello, server);
+    CHECK(server.server_id.length == 0 && server.redirect.length == 0 && server.subcommands == false);
+    CHECK(sudolog_next_string(&server.servers, &string) == 0);
+    EMPTY(string_list, strings);
+    CHECK(sudolog_next_string(&strings, &string) == 0);
+    EMPTY(number_list, numbers);
+    CHECK(sudolog_next_int64(&numbers, &number) == 0);
+}
+
+/* ---- refusals ---- */
+
+#define REFUSED_BOTH(NAME, TEXT, REFUSAL)                                                                   \
+    REFUSED(decode_##NAME, NAME, BYTES(TEXT), REFUSAL);                                                     \
+    REFUSED(read_##NAME, NAME, BYTES(TEXT), REFUSAL)
+
+static void each_refusal(void)
+{
+    REFUSED_BOTH(time, "\x08", 2);
+    REFUSED_BOTH(time, "\x08\x80", 2);
+    REFUSED_BOTH(time, "\x08\xFF\xFF\xFF\xFF\xFF\xFF\xFF\xFF\xFF\x02", 2);
+    REFUSED_BOTH(number_list, "\x0A\x01\x80\x01", 2);
+    REFUSED_BOTH(client_hello, "\x0A\x03" "ab", 3);
+    REFUSED_BOTH(client_hello, "\x7D\x00\x00\x00", 3);
+    REFUSED_BOTH(client_hello, "\x79\x00\x00\x00\x00\x00\x00\x00", 3);
+    REFUSED_BOTH(client_hello, "\x00\x00", 4);
+    REFUSED_BOTH(client_hello, "\x7B\x7C", 4);
+    REFUSED_BOTH(client_hello, "\x80\x80\x80\x80\x10\x00", 4);
+    REFUSED_BOTH(client_hello, "\x08\x00", 5);
+    REFUSED_BOTH(client_hello, "\x0D", 5);
+    REFUSED_BOTH(number_list, "\x0D\x00\x00\x00\x00", 5);
+    REFUSED_BOTH(server_hello, "\x22\x00", 5);  /* subcommands, and below hello_msg: in the manual's */
+    REFUSED_BOTH(client_message, "\x68\x00", 5); /* sections, not in its listing */
+    REFUSED_BOTH(client_message, "", 6);
+    REFUSED_BOTH(client_message, "\x78\x00", 6);
+    REFUSED_BOTH(server_message, "\x6A\x00", 6);
+}
+
+/* Each reader leaves its struct alone, whichever function refuses. */
+static void nothing_written(void)
+{
+    REFUSED_BOTH(client_message, "\x6A\x00\x00", 4);
+    REFUSED_BOTH(server_message, "\x12\x00\x00", 4);
+    REFUSED_BOTH(accept, "\x18\x01\x00", 4);
+    REFUSED_BOTH(reject, "\x12\x01x\x00", 4);
+    REFUSED_BOTH(exit, "\x10\x01\x00", 4);
+    REFUSED_BOTH(restart, "\x0A\x01x\x00", 4);
+    REFUSED_BOTH(alert, "\x12\x01x\x00", 4);
+    REFUSED_BOTH(io_buffer, "\x12\x01x\x00", 4);
+    REFUSED_BOTH(window_size, "\x10\x01\x00", 4);
+    REFUSED_BOTH(suspend, "\x12\x01x\x00", 4);
+    REFUSED_BOTH(client_hello, "\x0A\x01x\x00", 4);
+    REFUSED_BOTH(server_hello, "\x20\x01\x00", 4);
+    REFUSED_BOTH(entry, "\x0A\x01x\x00", 4);
+    REFUSED_BOTH(string_list, "\x0A\x01x\x00", 4);
+    REFUSED_BOTH(number_list, "\x08\x01\x00", 4);
+    REFUSED_BOTH(time, "\x08\x01\x00", 4);
+    REFUSED(scan_client, client_scan, BYTES("\x3A\x00\x00"), 4);
+    REFUSED(scan_client, client_scan, BYTES(""), 6);
+}
+
+static void leftmost_place_first(void)
+{
+    struct slice exited = BYTES("\x1A\x03\x10\xAC\x02\x6A\x00");
+    struct slice committed = BYTES("\x12\x06\x08\x80\x80\x80\x80\x10\x1A\x00");
+    struct sudolog_client_message message;
+    struct sudolog_server_message answer;
+    REFUSED_BOTH(client_message, "\x3A\x02\x08\x00\x00", 5);         /* 5 inside, then 4 outside */
+    REFUSED_BOTH(client_message, "\x3A\x02\x12\x05\x6A\x00", 3);     /* an overwritten member */
+    REFUSED_BOTH(client_message, "\x3A\x04\x12\x03" "ab\x6A\x00", 3); /* its data would end outside it */
+    REFUSED_BOTH(client_message, "\x3B", 4);                         /* at one tag 4 goes before 5 */
+    /* ranges look only at what counts: a hello overwrites exit_value 300, a log id a commit point */
+    CHECK(sudolog_read_client_message(exited.m, exited.n, &message) == 0);
+    CHECK(message.member == SUDOLOG_FROM_CLIENT_HELLO);
+    CHECK(sudolog_read_server_message(committed.m, committed.n, &answer) == 0);
+    CHECK(answer.member == SUDOLOG_FROM_SERVER_LOG_ID && is_time(answer.commit_point, 0, 0));
+}
+
+static void ranges_of_times(void)
+{
+    OUT_OF_RANGE(io_buffer, BYTES("\x0A\x06\x08\x80\x80\x80\x80\x10"));       /* 4,294,967,296 s */
+    OUT_OF_RANGE(io_buffer, BYTES("\x0A\x06\x10\x80\x94\xEB\xDC\x03"));       /* 1,000,000,000 ns */
+    OUT_OF_RANGE(suspend, BYTES("\x0A\x0B\x08" MINUS_ONE "\x12\x01x"));
+    OUT_OF_RANGE(restart, BYTES("\x0A\x01x\x12\x06\x08\x80\x80\x80\x80\x10"));
+    OUT_OF_RANGE(exit, BYTES("\x0A\x06\x08\x80\x80\x80\x80\x10"));
+    OUT_OF_RANGE(accept, BYTES("\x0A\x06\x10\x80\x94\xEB\xDC\x03"));
+    OUT_OF_RANGE(reject, BYTES("\x0A\x06\x10\xFF\xFF\xFF\xFF\x0F"));          /* -1 ns */
+    OUT_OF_RANGE(alert, BYTES("\x0A\x06\x10\x80\x94\xEB\xDC\x03"));
+    OUT_OF_RANGE(server_message, BYTES("\x12\x06\x08\x80\x80\x80\x80\x10"));
+}
+
+static void ranges_of_the_rest(void)
+{
+    OUT_OF_RANGE(exit, BYTES("\x10\x80\x02"));
+    OUT_OF_RANGE(exit, BYTES("\x10\xFF\xFF\xFF\xFF\x0F"));
+    OUT_OF_RANGE(window_size, BYTES("\x10\x80\x80\x04"));
+    OUT_OF_RANGE(window_size, BYTES("\x18\x80\x80\x04"));
+    OUT_OF_RANGE(suspend, BYTES(""));
+    OUT_OF_RANGE(restart, BYTES(""));
+    OUT_OF_RANGE(entry, BYTES("\x10\x01"));
+    OUT_OF_RANGE(accept, BYTES("\x12\x00"));
+    OUT_OF_RANGE(reject, BYTES("\x1A\x00"));
+    OUT_OF_RANGE(alert, BYTES("\x1A\x03\x0A\x01k"));
+    OUT_OF_RANGE(client_message, BYTES("\x62\x00"));
+}
+
+/* A string of `length` bytes in field 1, 2 or 4: the ranges that speak of lengths. */
+static struct slice long_string(uint8_t *room, uint8_t tag, size_t length)
+{
+    struct slice s;
+    room[0] = tag;
+    room[1] = (uint8_t)(length % 128 + 128);
+    room[2] = (uint8_t)(length / 128);
+    memset(room + 3, 'x', length);
+    s.m = room;
+    s.n = 3 + length;
+    return s;
+}
+
+static void ranges_of_lengths(void)
+{
+    uint8_t room[3 + 4096];
+    struct slice in;
+    struct sudolog_exit ended;
+    struct sudolog_suspend suspend;
+    struct sudolog_restart restart;
+    in = long_string(room, 0x22, 127);
+    CHECK(sudolog_read_exit(in.m, in.n, &ended) == 0 && ended.signal.length == 127);
+    OUT_OF_RANGE(exit, long_string(room, 0x22, 128));
+    in = long_string(room, 0x12, 127);
+    CHECK(sudolog_read_suspend(in.m, in.n, &suspend) == 0 && suspend.signal.length == 127);
+    OUT_OF_RANGE(suspend, long_string(room, 0x12, 128));
+    in = long_string(room, 0x0A, 4095);
+    CHECK(sudolog_read_restart(in.m, in.n, &restart) == 0 && restart.log_id.length == 4095);
+    OUT_OF_RANGE(restart, long_string(room, 0x0A, 4096));
+}
+
+/* ---- the exported functions where the structs hide their answer ---- */
+
+static void room_too_small(void)
+{
+    struct slice client = BYTES("\x3A\x00");
+    struct slice numbers = BYTES("\x08\x01");
+    uint8_t out[56], before[56];
+    memset(out, 0xA5, sizeof out);
+    memset(before, 0xA5, sizeof before);
+    CHECK(sudolog_client(client.m, client.n, out, 55) == 12);
+    CHECK(sudolog_client(client.m, client.n, out, 0) == 12);
+    CHECK(sudolog_next_number(numbers.m, numbers.n, 0, 0, out, 23) == 12);
+    CHECK(sudolog_next_number(numbers.m, numbers.n, 2, 0, out, 24) == 0);
+    CHECK(memcmp(out, before, sizeof out) == 0);
+    CHECK(sudolog_next_number(numbers.m, numbers.n, 0, 0, out, 24) == 1);
+    CHECK(memcmp(out + 24, before + 24, sizeof out - 24) == 0);
+    CHECK(sudolog_client(client.m, client.n, out, 56) == 0);
+    CHECK(sudolog_big_endian(out) == SUDOLOG_FROM_CLIENT_TTYOUT);
+}
+
+static void fields_that_are_absent(void)
+{
+    struct slice in = BYTES("\x08\x05\x12\x01x");
+    struct slice key = BYTES("\x0A\x01k");
+    CHECK(sudolog_number(1, in.m, in.n) == 5);
+    CHECK(sudolog_number(3, in.m, in.n) == 0);
+    CHECK(sudolog_offset(2, in.m, in.n) == 4 && sudolog_length(2, in.m, in.n) == 1);
+    CHECK(sudolog_offset(3, in.m, in.n) == 0 && sudolog_length(3, in.m, in.n) == 0);
+    CHECK(sudolog_next_offset(2, in.m, in.n, 0) == 4 && sudolog_next_length(2, in.m, in.n, 0) == 1);
+    CHECK(sudolog_next_offset(2, in.m, in.n, 5) == UINT64_MAX && sudolog_next_length(2, in.m, in.n, 5) == 0);
+    CHECK(sudolog_member(SUDOLOG_ACCEPT_MESSAGE, in.m, in.n) == 0);
+    CHECK(sudolog_member(SUDOLOG_INFO_MESSAGE, key.m, key.n) == 0);
+}
+
+static void numbers_from_bytes(void)
+{
+    struct slice in = BYTES("\x01\x02\x03\x04\x05\x06\x07\xF8");
+    CHECK(sudolog_big_endian(in.m) == UINT64_C(0x01020304050607F8));
+    CHECK(sudolog_int64(UINT64_MAX) == -1 && sudolog_int64(UINT64_C(1) << 63) == INT64_MIN);
+    CHECK(sudolog_int64(INT64_MAX) == INT64_MAX && sudolog_int64(0) == 0);
+    CHECK(sudolog_int32(UINT32_MAX) == -1 && sudolog_int32(UINT64_C(1) << 31) == INT32_MIN);
+    CHECK(sudolog_int32(UINT64_C(1) << 32) == 0 && sudolog_int32(INT32_MAX) == INT32_MAX);
+}
+
+int main(void)
+{
+    short_frames();
+    longest_frames();
+    example_1_time();
+    example_2_ttyout();
+    example_4_int64();
+    example_5_int32();
+    example_6_commit_point();
+    entry_values();
+    entry_last_value_counts();
+    entry_without_value();
+    strings_in_order();
+    numbers_in_order();
+    accept_fields();
+    reject_fields();
+    alert_fields();
+    exit_fields();
+    restart_fields();
+    timed_fields();
+    hello_fields();
+    server_members();
+    client_members();
+    scan_finds_delay_and_data();
+    last_one_counts();
+    longer_forms_are_read();
+    absent_fields();
+    absent_spans_and_lists();
+    each_refusal();
+    nothing_written();
+    leftmost_place_first();
+    ranges_of_times();
+    ranges_of_the_rest();
+    ranges_of_lengths();
+    room_too_small();
+    fields_that_are_absent();
+    numbers_from_bytes();
+    printf("%d passed, %d failed\n", passed, failed);
+    return failed == 0 ? 0 : 1;
+}
