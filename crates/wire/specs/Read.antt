@@ -9,8 +9,8 @@ use Rattle.encoding.specs.Check.{checkOf}
 use Rattle.encoding.specs.Items.{Item, none, number, bytes, items, lastItem}
 use Rattle.encoding.specs.declared.check.Checked.{Checked}
 use Rattle.encoding.specs.declared.check.Checked.the-variants as checked
-use Rattle.wire.specs.Message.{Client, Server, clientMember, serverMember}
-use Rattle.wire.specs.Range.{inRange}
+use Rattle.message.specs.Message.{Client, Server, clientMember, serverMember}
+use Rattle.range.specs.Range.{inRange}
 
 -- a message's value, or the number of its refusal
 pub data Reading (A : Type 0) : Type 0 where
