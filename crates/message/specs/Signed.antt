@@ -1,7 +1,7 @@
 -- The numbers that a varint's 64 bits stand for. Document 01: "int64 is the 64 bits in two's complement. int32 is the low 32
 -- bits. bool is true for any number but 0."
 use Prim.Native.Nat.{ℕ, _+_, _-_, _%_}
-use mathlib.Core.Bool.{Bool, true, false}
+use mathlib.Core.Bool.{Bool, not}
 use lib.IntN.{ℤ, pos, negsuc}
 use lib.Dec.{ltb, eqb}
 use Rattle.laws.specs.Base.{pick}
@@ -17,4 +17,4 @@ unfoldable pub int32 : ℕ → ℤ
 int32 v = signed 2147483648 (v % 4294967296)
 
 unfoldable pub bool : ℕ → Bool
-bool v = pick (eqb v 0) false true
+bool v = not (eqb v 0)
