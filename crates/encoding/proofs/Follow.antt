@@ -8,7 +8,7 @@ use lib.ListN.{length}
 use borrow.Author.Tests.{lt-ltb, le-ltb}
 use Rattle.encoding.specs.Varint.{varintAt}
 use Rattle.encoding.specs.Field.{tagAt, tagOf, payloadAt}
-use Rattle.encoding.specs.Fields.{fieldOf, fieldFrom, fieldAt, onField, fieldsFrom, fieldsAt, fieldsOf, among, later, lastOf, lastIn}
+use Rattle.encoding.specs.Fields.{fieldOf, fieldFrom, fieldAt, onField, fieldsFrom, fieldsAt, fieldsOf, among, later, lastOf, lastIn, startFrom, endFrom}
 use Rattle.encoding.specs.declared.fields.Last.{Last}
 use Rattle.encoding.specs.declared.fields.Last.the-variants as last
 use lib.Dec.{ltb}
@@ -127,3 +127,13 @@ last-lies s lo hi l (e ∷ es) h i = last-lies s lo hi (later lo hi l e) es (lat
 pub last-in-lies : (s : List ℕ) (lo hi : ℕ) → LastLies s (lastIn lo hi s)
 unfolding fieldsAt
 last-in-lies s lo hi = last-lies s lo hi last.Nothing (fieldsOf s) tt (lies (suc (length s - 0)) s 0)
+
+ends-lie : (s : List ℕ) (l : Last) → LastLies s l → (startFrom l ≤ endFrom l) × (endFrom l ≤ length s)
+unfolding startFrom endFrom
+ends-lie s last.Nothing h = (omega arith, omega arith)
+ends-lie s (last.Number f v) h = (omega arith, omega arith)
+ends-lie s (last.Part f a e) h = h
+
+-- the bytes of a field lie within the message
+pub span-lies : (s : List ℕ) (f : ℕ) → (startFrom (lastIn f f s) ≤ endFrom (lastIn f f s)) × (endFrom (lastIn f f s) ≤ length s)
+span-lies s f = ends-lie s (lastIn f f s) (last-in-lies s f f)

@@ -31,7 +31,7 @@ use Rattle.walk.specs.declared.io.IoRead.the-variants as ioread
 use Rattle.walk.specs.declared.client.ClientRead.{ClientRead}
 use Rattle.walk.specs.declared.client.ClientRead.the-variants as client
 use Rattle.encoding.proofs.Checks.{at-end}
-use Rattle.encoding.proofs.Follow.{none, LastLies, last-in-lies}
+use Rattle.encoding.proofs.Follow.{none, span-lies}
 use Rattle.encoding.proofs.Rows.{kinds}
 use Rattle.encoding.proofs.Walk.{On, leads-on, ends-at, outside, inside-on, inside-stops, no-number, field-leads, field-inside, field-part, field-stops}
 
@@ -46,16 +46,10 @@ unfolding ioRead
 io-bad checked.Fine t l r p e = let z : _≡_ {A = ℕ} 0 1 = cc in absurd (omega arith)
 io-bad (checked.Refused u v) t l r p e = let a : u ≡ r = cc in let b : v ≡ p = cc in rw (a, b)
 
-ends-lie : (s : List ℕ) (l : Last) → LastLies s l → (startFrom l ≤ endFrom l) × (endFrom l ≤ length s)
-unfolding startFrom endFrom
-ends-lie s last.Nothing h = (omega arith, omega arith)
-ends-lie s (last.Number f v) h = (omega arith, omega arith)
-ends-lie s (last.Part f a e) h = h
-
 pub io-lies : (s : List ℕ) (x y b d : ℕ) → ioBufferOf s ≡ ioread.Fine x y b d → (b ≤ d) × (d ≤ length s)
 io-lies s x y b d e =
     let h = io-fine (checkOf 6 s) (timeIn 1 s) (lastIn 2 2 s) x y b d e in
-    let l = ends-lie s (lastIn 2 2 s) (last-in-lies s 2 2) in
+    let l = span-lies s 2 in
     (omega (arith, h .1, h .2, l .0), omega (arith, h .2, l .1))
 
 -- the members of a client message are the fields 1 to 13, each a message

@@ -1,63 +1,55 @@
+use Prim.Native.Nat.{_-_}
+use Rattle.range.specs.Range.{clientFits, bodyFits}
+use native.Mathlib.Omega.{arith}
+use mathlib.Core.Path.{_≡_, refl, sym, ap, subst, _∙_}
+use Rattle.encoding.proofs.Items.{last-means}
+use Rattle.encoding.proofs.Follow.{LastLies, last-in-lies}
 use borrow.Author.Needs.{needs}
 use Rattle.range.proofs.client_fits.Statement.{statement}
 use Rattle.range.proofs.client_fits.Tie as tie
-use Rattle.range.proofs.client_fits.Reads as reads
-use Rattle.range.proofs.client_fits.Lts as lts
-use Rattle.encoding.proofs.fields.last_in.Reads as last-in-reads
-use Rattle.encoding.proofs.schema.kind_of.Reads as kind-of-reads
-use Rattle.range.proofs.body_fits.Reads as body-fits-reads
 
--- src/lib.rt:216:11
 last-in-requires : tie.Need-last-in-requires
 last-in-requires c κs = search needs
 
--- src/lib.rt:217:26
 enum-told : tie.Need-enum-told
 enum-told c = search needs
 
--- src/lib.rt:221:14
 enum-told-2 : tie.Need-enum-told-2
 enum-told-2 c = search needs
 
--- src/lib.rt:222:22
 enum-known-number : tie.Need-enum-known-number
 enum-known-number c = search needs
 
--- src/lib.rt:223:17
 kind-of-requires : tie.Need-kind-of-requires
 kind-of-requires c κs = search needs
 
--- src/lib.rt:225:45
 sub-body-fits : tie.Need-sub-body-fits
-sub-body-fits c = ?
+sub-body-fits c = subst (LastLies (c .before .before .before .before .before .before .before .args .s .now)) (sym (c .before .before .before .before .before .last-in .ensures) ∙ c .before .before .before .number .given .1) (last-in-lies (c .before .before .before .before .before .before .before .args .s .now) 1 13) .0
 
--- src/lib.rt:225:45
 part-body-fits-start : tie.Need-part-body-fits-start
-part-body-fits-start c = ?
+part-body-fits-start c = let h = subst (LastLies (c .before .before .before .before .before .before .before .args .s .now)) (sym (c .before .before .before .before .before .last-in .ensures) ∙ c .before .before .before .number .given .1) (last-in-lies (c .before .before .before .before .before .before .before .args .s .now) 1 13) in omega arith
 
--- src/lib.rt:225:45
 part-body-fits-end : tie.Need-part-body-fits-end
-part-body-fits-end c = ?
+part-body-fits-end c = let h = subst (LastLies (c .before .before .before .before .before .before .before .args .s .now)) (sym (c .before .before .before .before .before .last-in .ensures) ∙ c .before .before .before .number .given .1) (last-in-lies (c .before .before .before .before .before .before .before .args .s .now) 1 13) in omega arith
 
--- src/lib.rt:225:17
 body-fits-requires : tie.Need-body-fits-requires
 body-fits-requires c κs = search needs
 
--- src/lib.rt:225:17
 returns : tie.Need-returns
-returns c = ?
+unfolding clientFits
+returns c = rw (← last-means (c .before .before .before .before .before .before .before .before .before .args .s .now) 1 13, sym (c .before .before .before .before .before .before .before .last-in .ensures) ∙ c .before .before .before .before .before .number .given .1, ← c .before .before .before .kind-of .ensures) (c .body-fits .ensures)
 
--- src/lib.rt:213:1
 returns-2 : tie.Need-returns-2
-returns-2 c = ?
+unfolding clientFits
+returns-2 c = rw (← last-means (c .before .before .before .before .args .s .now) 1 13, sym (c .before .before .last-in .ensures) ∙ c .enum-told .given .1)
 
--- src/lib.rt:213:1
 returns-3 : tie.Need-returns-3
-returns-3 c = ?
+unfolding clientFits
+returns-3 c = rw (← last-means (c .before .before .before .before .args .s .now) 1 13, sym (c .before .before .last-in .ensures) ∙ c .enum-told2 .given .1)
 
--- src/lib.rt:213:1
 returns-4 : tie.Need-returns-4
-returns-4 c = ?
+unfolding clientFits bodyFits
+returns-4 c = let z : c .before .kind-of .result - 16 ≡ 0 = omega arith in rw (← last-means (c .before .before .before .before .before .before .before .args .s .now) 1 13, sym (c .before .before .before .before .before .last-in .ensures) ∙ c .before .before .before .number .given .1, ← c .before .kind-of .ensures, z)
 
 pub client-fits-spec : {M : Type 1} → statement M
 client-fits-spec =

@@ -1,11 +1,16 @@
+use Rattle.range.proofs.Signs.{up-to}
+use Rattle.range.specs.Range.{dateFits}
+use Rattle.message.specs.Places.{timeValue}
+use Rattle.message.specs.Signed.{int32}
+use Prim.Native.Nat.{_%_}
+use lib.Dec.{lit≤}
+use mathlib.Core.Path.{sym}
 use Rattle.range.proofs.date_fits.Statement.{statement}
 use Rattle.range.proofs.date_fits.Tie as tie
-use Rattle.range.proofs.date_fits.Reads as reads
-use Rattle.range.proofs.date_fits.Lts as lts
 
--- src/lib.rt:24:1
 returns : tie.Need-returns
-returns c = ?
+unfolding dateFits timeValue int32
+returns c = sym (up-to 999999999 2147483648 (c .before .args .t .nanos % 4294967296) (lit≤ tt))
 
 pub date-fits-spec : {M : Type 1} → statement M
 date-fits-spec = tie.close (tie.spec returns)

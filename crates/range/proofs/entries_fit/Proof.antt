@@ -1,63 +1,62 @@
+use Rattle.range.specs.Range.{entriesFit}
+use Rattle.message.specs.Message.{Bytes, entry, entries}
+use Rattle.elements.proofs.Elements.{all-elements, found-none, found-part, found-lies}
+use Rattle.elements.specs.Elements.{elementsAt}
+use Rattle.encoding.specs.Items.{items}
+use lib.ListN.{length}
+use mathlib.Core.List.{map}
+use Prim.Native.Nat.{_-_}
+use borrow.Author.Needs.{needs}
+use native.Mathlib.Omega.{arith}
+use mathlib.Core.Path.{_≡_, refl, sym, ap, subst, _∙_}
 use Rattle.range.proofs.entries_fit.Statement.{statement}
 use Rattle.range.proofs.entries_fit.Tie as tie
-use Rattle.range.proofs.entries_fit.Reads as reads
-use Rattle.range.proofs.entries_fit.Lts as lts
-use Rattle.encoding.proofs.fields.next_part.Reads as next-part-reads
-use Rattle.range.proofs.entry_fits.Reads as entry-fits-reads
 
 abbrev Inv-loop : tie.InvT-loop
-Inv-loop s number at₀ at = ?
+Inv-loop s number at₀ at = entriesFit (map (λ (d : Bytes). entry (items d)) (elementsAt number s at)) ≡ entriesFit (entries number (items s))
 
 abbrev μ-loop : tie.MeasureT-loop
-μ-loop s number at₀ at = ?
+μ-loop s number at₀ at = length s - at
 
--- src/lib.rt:94:5
 loop-holds : tie.Need-loop-holds Inv-loop μ-loop
-loop-holds c = ?
+unfolding entries
+loop-holds c = rw (all-elements (c .before .args .number) (c .before .args .s .now))
 
--- src/lib.rt:95:15
 next-part-requires : tie.Need-next-part-requires Inv-loop μ-loop
-next-part-requires c κs = ?
+next-part-requires c κs = search needs
 
--- src/lib.rt:96:27
 enum-known-start : tie.Need-enum-known-start Inv-loop μ-loop
-enum-known-start c = ?
+enum-known-start c = search needs
 
--- src/lib.rt:97:31
 sub-entry-fits : tie.Need-sub-entry-fits Inv-loop μ-loop
-sub-entry-fits c = ?
+sub-entry-fits c = found-lies (c .before .before .before .before .before .before .args .number) (c .before .before .before .before .before .before .args .s .now) (c .before .before .before .before .loop .at) (sym (c .before .before .before .next-part .ensures) ∙ c .before .start .given .1) .1
 
--- src/lib.rt:97:31
 part-entry-fits-start : tie.Need-part-entry-fits-start Inv-loop μ-loop
-part-entry-fits-start c = ?
+part-entry-fits-start c = let h = found-lies (c .before .before .before .before .before .before .args .number) (c .before .before .before .before .before .before .args .s .now) (c .before .before .before .before .loop .at) (sym (c .before .before .before .next-part .ensures) ∙ c .before .start .given .1) in omega arith
 
--- src/lib.rt:97:31
 part-entry-fits-end : tie.Need-part-entry-fits-end Inv-loop μ-loop
-part-entry-fits-end c = ?
+part-entry-fits-end c = let h = found-lies (c .before .before .before .before .before .before .args .number) (c .before .before .before .before .before .before .args .s .now) (c .before .before .before .before .loop .at) (sym (c .before .before .before .next-part .ensures) ∙ c .before .start .given .1) in omega arith
 
--- src/lib.rt:97:20
 entry-fits-requires : tie.Need-entry-fits-requires Inv-loop μ-loop
-entry-fits-requires c κs = ?
+entry-fits-requires c κs = search needs
 
--- src/lib.rt:94:5
 loop-less : tie.Need-loop-less Inv-loop μ-loop
-loop-less c = ?
+loop-less c = let h = found-lies (c .before .before .before .before .before .before .before .before .before .args .number) (c .before .before .before .before .before .before .before .before .before .args .s .now) (c .before .before .before .before .before .before .before .loop .at) (sym (c .before .before .before .before .before .before .next-part .ensures) ∙ c .before .before .before .before .start .given .1) in omega arith
 
--- src/lib.rt:94:5
 loop-again : tie.Need-loop-again Inv-loop μ-loop
-loop-again c = ?
+unfolding entriesFit
+loop-again c = rw (found-part (c .before .before .before .before .before .before .before .before .before .args .number) (c .before .before .before .before .before .before .before .before .before .args .s .now) (c .before .before .before .before .before .before .before .loop .at) (sym (c .before .before .before .before .before .before .next-part .ensures) ∙ c .before .before .before .before .start .given .1), sym (c .before .entry-fits .ensures) ∙ c .if1 .taken) at (c .before .before .before .before .before .before .before .loop .inv)
 
--- src/lib.rt:100:21
 returns : tie.Need-returns Inv-loop μ-loop
-returns c = ?
+unfolding entriesFit
+returns c = rw (found-part (c .before .before .before .before .before .before .before .before .before .args .number) (c .before .before .before .before .before .before .before .before .before .args .s .now) (c .before .before .before .before .before .before .before .loop .at) (sym (c .before .before .before .before .before .before .next-part .ensures) ∙ c .before .before .before .before .start .given .1), sym (c .before .entry-fits .ensures) ∙ c .if1 .left) at (c .before .before .before .before .before .before .before .loop .inv)
 
--- src/lib.rt:104:17
 enum-told : tie.Need-enum-told Inv-loop μ-loop
-enum-told c = ?
+enum-told c = search needs
 
--- src/lib.rt:104:17
 returns-2 : tie.Need-returns-2 Inv-loop μ-loop
-returns-2 c = ?
+unfolding entriesFit
+returns-2 c = rw (found-none (c .before .before .before .before .before .args .number) (c .before .before .before .before .before .args .s .now) (c .before .before .before .loop .at) (sym (c .before .before .next-part .ensures) ∙ c .enum-told .given .1)) at (c .before .before .before .loop .inv)
 
 pub entries-fit-spec : {M : Type 1} → statement M
 entries-fit-spec =

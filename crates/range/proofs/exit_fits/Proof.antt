@@ -1,35 +1,31 @@
+use Rattle.range.specs.Range.{exitFits, sized}
+use Rattle.message.specs.Message.{exit}
+use lib.Dec.{leb·zero}
+use mathlib.Core.Path.{sym, ap, _∙_}
 use borrow.Author.Needs.{needs}
 use Rattle.range.proofs.exit_fits.Statement.{statement}
 use Rattle.range.proofs.exit_fits.Tie as tie
-use Rattle.range.proofs.exit_fits.Reads as reads
-use Rattle.range.proofs.exit_fits.Lts as lts
-use Rattle.range.proofs.length_in.Reads as length-in-reads
-use Rattle.range.proofs.moment_in.Reads as moment-in-reads
-use Rattle.range.proofs.number_fits.Reads as number-fits-reads
 
--- src/lib.rt:131:8
 moment-in-requires : tie.Need-moment-in-requires
 moment-in-requires c κs = search needs
 
--- src/lib.rt:132:12
 number-fits-requires : tie.Need-number-fits-requires
 number-fits-requires c κs = search needs
 
--- src/lib.rt:133:20
 length-in-requires : tie.Need-length-in-requires
 length-in-requires c κs = search needs
 
--- src/lib.rt:133:13
 returns : tie.Need-returns
-returns c = ?
+unfolding exitFits exit sized
+returns c = rw (sym (c .before .before .before .before .moment-in .ensures) ∙ c .before .before .before .if1 .taken, sym (c .before .before .number-fits .ensures) ∙ c .before .if2 .taken, ← c .length-in .ensures, leb·zero (c .length-in .result))
 
--- src/lib.rt:135:9
 returns-2 : tie.Need-returns-2
-returns-2 c = ?
+unfolding exitFits exit
+returns-2 c = rw (sym (c .before .before .before .moment-in .ensures) ∙ c .before .before .if1 .taken, sym (c .before .number-fits .ensures) ∙ c .if2 .left)
 
--- src/lib.rt:128:1
 returns-3 : tie.Need-returns-3
-returns-3 c = ?
+unfolding exitFits exit
+returns-3 c = rw (sym (c .before .moment-in .ensures) ∙ c .if1 .left)
 
 pub exit-fits-spec : {M : Type 1} → statement M
 exit-fits-spec =

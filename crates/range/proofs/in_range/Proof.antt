@@ -1,35 +1,29 @@
+use Rattle.range.specs.Range.{inRange}
+use borrow.Author.Tests.{eq-eqb, ne-eqb}
 use borrow.Author.Needs.{needs}
 use Rattle.range.proofs.in_range.Statement.{statement}
 use Rattle.range.proofs.in_range.Tie as tie
-use Rattle.range.proofs.in_range.Reads as reads
-use Rattle.range.proofs.in_range.Lts as lts
-use Rattle.range.proofs.body_fits.Reads as body-fits-reads
-use Rattle.range.proofs.client_fits.Reads as client-fits-reads
-use Rattle.range.proofs.server_fits.Reads as server-fits-reads
 
--- src/lib.rt:256:9
 client-fits-requires : tie.Need-client-fits-requires
 client-fits-requires c κs = search needs
 
--- src/lib.rt:256:9
 returns : tie.Need-returns
-returns c = ?
+unfolding inRange
+returns c = rw (eq-eqb _ _ (c .before .if1 .taken)) (c .client-fits .ensures)
 
--- src/lib.rt:259:9
 server-fits-requires : tie.Need-server-fits-requires
 server-fits-requires c κs = search needs
 
--- src/lib.rt:259:9
 returns-2 : tie.Need-returns-2
-returns-2 c = ?
+unfolding inRange
+returns-2 c = rw (ne-eqb _ _ (c .before .before .if1 .left), eq-eqb _ _ (c .before .if2 .taken)) (c .server-fits .ensures)
 
--- src/lib.rt:261:5
 body-fits-requires : tie.Need-body-fits-requires
 body-fits-requires c κs = search needs
 
--- src/lib.rt:252:1
 returns-3 : tie.Need-returns-3
-returns-3 c = ?
+unfolding inRange
+returns-3 c = rw (ne-eqb _ _ (c .before .before .if1 .left), ne-eqb _ _ (c .before .if2 .left)) (c .body-fits .ensures)
 
 pub in-range-spec : {M : Type 1} → statement M
 in-range-spec =

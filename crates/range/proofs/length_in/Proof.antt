@@ -1,21 +1,22 @@
+use Rattle.encoding.proofs.Follow.{span-lies}
+use Rattle.encoding.proofs.Items.{bytes-means}
+use Rattle.encoding.specs.Fields.{lastIn, startFrom, endFrom}
+use Rattle.laws.proofs.Parts.{length-part}
+use lib.ListN.{length}
+use native.Mathlib.Omega.{arith}
+use mathlib.Core.Path.{_≡_, refl, sym, ap, subst, _∙_}
 use borrow.Author.Needs.{needs}
 use Rattle.range.proofs.length_in.Statement.{statement}
 use Rattle.range.proofs.length_in.Tie as tie
-use Rattle.range.proofs.length_in.Reads as reads
-use Rattle.range.proofs.length_in.Lts as lts
-use Rattle.encoding.proofs.fields.part_in.Reads as part-in-reads
 
--- src/lib.rt:64:9
 part-in-requires : tie.Need-part-in-requires
 part-in-requires c κs = search needs
 
--- src/lib.rt:65:5
 sub-result : tie.Need-sub-result
-sub-result c = ?
+sub-result c = let a = c .before .before .before .args in rw (c .before .part-in .ensures) (span-lies (a .s .now) (a .number) .0)
 
--- src/lib.rt:61:1
 returns : tie.Need-returns
-returns c = ?
+returns c = let a = c .before .before .before .args in let l = span-lies (a .s .now) (a .number) in rw (c .before .part-in .ensures, ← bytes-means (a .s .now) (a .number)) (sym (length-part (a .s .now) _ _ (l .0) (l .1)))
 
 pub length-in-spec : {M : Type 1} → statement M
 length-in-spec = tie.close (tie.spec part-in-requires sub-result returns)

@@ -1,21 +1,24 @@
+use Rattle.range.proofs.Signs.{up-to}
+use Rattle.range.specs.Range.{momentFits}
+use Rattle.message.specs.Places.{timeValue}
+use Rattle.message.specs.Signed.{int64}
+use borrow.Author.Tests.{le-leb, lt-leb}
+use lib.Dec.{lit≤}
+use mathlib.Core.Path.{sym, _∙_}
 use borrow.Author.Needs.{needs}
 use Rattle.range.proofs.moment_fits.Statement.{statement}
 use Rattle.range.proofs.moment_fits.Tie as tie
-use Rattle.range.proofs.moment_fits.Reads as reads
-use Rattle.range.proofs.moment_fits.Lts as lts
-use Rattle.range.proofs.date_fits.Reads as date-fits-reads
 
--- src/lib.rt:35:9
 date-fits-requires : tie.Need-date-fits-requires
 date-fits-requires c κs = search needs
 
--- src/lib.rt:35:9
 returns : tie.Need-returns
-returns c = ?
+unfolding momentFits timeValue int64
+returns c = rw (up-to 4294967295 9223372036854775808 (c .before .before .before .args .t .seconds) (lit≤ tt), le-leb _ _ (c .before .if1 .taken)) (c .date-fits .ensures)
 
--- src/lib.rt:31:1
 returns-2 : tie.Need-returns-2
-returns-2 c = ?
+unfolding momentFits timeValue int64
+returns-2 c = rw (up-to 4294967295 9223372036854775808 (c .before .before .args .t .seconds) (lit≤ tt), lt-leb _ _ (c .if1 .left))
 
 pub moment-fits-spec : {M : Type 1} → statement M
 moment-fits-spec = tie.close (tie.spec date-fits-requires returns returns-2)

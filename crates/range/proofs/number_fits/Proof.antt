@@ -1,17 +1,18 @@
+use Rattle.range.proofs.Signs.{up-to}
+use Rattle.encoding.proofs.Items.{number-means}
+use Rattle.message.specs.Signed.{int32}
+use Prim.Native.Nat.{_%_}
+use mathlib.Core.Path.{sym, _∙_}
 use borrow.Author.Needs.{needs}
 use Rattle.range.proofs.number_fits.Statement.{statement}
 use Rattle.range.proofs.number_fits.Tie as tie
-use Rattle.range.proofs.number_fits.Reads as reads
-use Rattle.range.proofs.number_fits.Lts as lts
-use Rattle.encoding.proofs.fields.number_in.Reads as number-in-reads
 
--- src/lib.rt:57:5
 number-in-requires : tie.Need-number-in-requires
 number-in-requires c κs = search needs
 
--- src/lib.rt:53:1
 returns : tie.Need-returns
-returns c = ?
+unfolding int32
+returns c = let a = c .before .before .args in rw (← number-means (a .s .now) (a .number), ← c .number-in .ensures) (sym (up-to (a .most) 2147483648 (c .number-in .result % 4294967296) (c .before .before .pre)))
 
 pub number-fits-spec : {M : Type 1} → statement M
 number-fits-spec = tie.close (tie.spec number-in-requires returns)

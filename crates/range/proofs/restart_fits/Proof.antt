@@ -1,30 +1,28 @@
+use Rattle.range.specs.Range.{restartFits, sized}
+use Rattle.message.specs.Message.{restart}
+use borrow.Author.Tests.{le-leb, lt-leb}
+use mathlib.Core.Path.{sym, _∙_}
 use borrow.Author.Needs.{needs}
 use Rattle.range.proofs.restart_fits.Statement.{statement}
 use Rattle.range.proofs.restart_fits.Tie as tie
-use Rattle.range.proofs.restart_fits.Reads as reads
-use Rattle.range.proofs.restart_fits.Lts as lts
-use Rattle.range.proofs.length_in.Reads as length-in-reads
-use Rattle.range.proofs.moment_in.Reads as moment-in-reads
 
--- src/lib.rt:143:9
 length-in-requires : tie.Need-length-in-requires
 length-in-requires c κs = search needs
 
--- src/lib.rt:146:13
 moment-in-requires : tie.Need-moment-in-requires
 moment-in-requires c κs = search needs
 
--- src/lib.rt:146:13
 returns : tie.Need-returns
-returns c = ?
+unfolding restartFits restart sized
+returns c = rw (← c .before .before .before .length-in .ensures, le-leb _ _ (c .before .before .if1 .taken), le-leb _ _ (c .before .if2 .taken)) (c .moment-in .ensures)
 
--- src/lib.rt:148:9
 returns-2 : tie.Need-returns-2
-returns-2 c = ?
+unfolding restartFits restart sized
+returns-2 c = rw (← c .before .before .length-in .ensures, le-leb _ _ (c .before .if1 .taken), lt-leb _ _ (c .if2 .left))
 
--- src/lib.rt:140:1
 returns-3 : tie.Need-returns-3
-returns-3 c = ?
+unfolding restartFits restart sized
+returns-3 c = rw (← c .before .length-in .ensures, lt-leb _ _ (c .if1 .left))
 
 pub restart-fits-spec : {M : Type 1} → statement M
 restart-fits-spec =

@@ -1,63 +1,55 @@
+use borrow.Author.Tests.{eq-eqb, ne-eqb}
+use Rattle.range.specs.Range.{serverFits}
+use native.Mathlib.Omega.{arith}
+use mathlib.Core.Path.{_≡_, refl, sym, ap, subst, _∙_}
+use Rattle.encoding.proofs.Items.{last-means}
+use Rattle.encoding.proofs.Follow.{LastLies, last-in-lies}
 use borrow.Author.Needs.{needs}
 use Rattle.range.proofs.server_fits.Statement.{statement}
 use Rattle.range.proofs.server_fits.Tie as tie
-use Rattle.range.proofs.server_fits.Reads as reads
-use Rattle.range.proofs.server_fits.Lts as lts
-use Rattle.encoding.proofs.fields.last_in.Reads as last-in-reads
-use Rattle.message.proofs.time_spec_in.Reads as time-spec-in-reads
-use Rattle.range.proofs.moment_fits.Reads as moment-fits-reads
 
--- src/lib.rt:236:11
 last-in-requires : tie.Need-last-in-requires
 last-in-requires c κs = search needs
 
--- src/lib.rt:237:26
 enum-told : tie.Need-enum-told
 enum-told c = search needs
 
--- src/lib.rt:241:14
 enum-told-2 : tie.Need-enum-told-2
 enum-told-2 c = search needs
 
--- src/lib.rt:242:22
 enum-known-number : tie.Need-enum-known-number
 enum-known-number c = search needs
 
--- src/lib.rt:244:49
 sub-time-spec-in : tie.Need-sub-time-spec-in
-sub-time-spec-in c = ?
+sub-time-spec-in c = subst (LastLies (c .before .before .before .before .before .before .args .s .now)) (sym (c .before .before .before .before .last-in .ensures) ∙ c .before .before .number .given .1) (last-in-lies (c .before .before .before .before .before .before .args .s .now) 1 5) .0
 
--- src/lib.rt:244:49
 part-time-spec-in-start : tie.Need-part-time-spec-in-start
-part-time-spec-in-start c = ?
+part-time-spec-in-start c = let h = subst (LastLies (c .before .before .before .before .before .before .args .s .now)) (sym (c .before .before .before .before .last-in .ensures) ∙ c .before .before .number .given .1) (last-in-lies (c .before .before .before .before .before .before .args .s .now) 1 5) in omega arith
 
--- src/lib.rt:244:49
 part-time-spec-in-end : tie.Need-part-time-spec-in-end
-part-time-spec-in-end c = ?
+part-time-spec-in-end c = let h = subst (LastLies (c .before .before .before .before .before .before .args .s .now)) (sym (c .before .before .before .before .last-in .ensures) ∙ c .before .before .number .given .1) (last-in-lies (c .before .before .before .before .before .before .args .s .now) 1 5) in omega arith
 
--- src/lib.rt:244:36
 time-spec-in-requires : tie.Need-time-spec-in-requires
 time-spec-in-requires c κs = search needs
 
--- src/lib.rt:244:17
 moment-fits-requires : tie.Need-moment-fits-requires
 moment-fits-requires c κs = search needs
 
--- src/lib.rt:244:17
 returns : tie.Need-returns
-returns c = ?
+unfolding serverFits
+returns c = rw (← last-means (c .before .before .before .before .before .before .before .before .before .args .s .now) 1 5, sym (c .before .before .before .before .before .before .before .last-in .ensures) ∙ c .before .before .before .before .before .number .given .1, eq-eqb _ _ (c .before .before .before .if1 .taken), ← c .before .time-spec-in .ensures) (c .moment-fits .ensures)
 
--- src/lib.rt:233:1
 returns-2 : tie.Need-returns-2
-returns-2 c = ?
+unfolding serverFits
+returns-2 c = rw (← last-means (c .before .before .before .before .args .s .now) 1 5, sym (c .before .before .last-in .ensures) ∙ c .enum-told .given .1)
 
--- src/lib.rt:233:1
 returns-3 : tie.Need-returns-3
-returns-3 c = ?
+unfolding serverFits
+returns-3 c = rw (← last-means (c .before .before .before .before .args .s .now) 1 5, sym (c .before .before .last-in .ensures) ∙ c .enum-told2 .given .1)
 
--- src/lib.rt:233:1
 returns-4 : tie.Need-returns-4
-returns-4 c = ?
+unfolding serverFits
+returns-4 c = rw (← last-means (c .before .before .before .before .before .before .args .s .now) 1 5, sym (c .before .before .before .before .last-in .ensures) ∙ c .before .before .number .given .1, ne-eqb _ _ (c .if1 .left))
 
 pub server-fits-spec : {M : Type 1} → statement M
 server-fits-spec =

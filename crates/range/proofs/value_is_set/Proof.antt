@@ -1,53 +1,47 @@
+use Rattle.range.specs.Range.{isSet}
+use Rattle.message.specs.Places.{valueAt}
+use mathlib.Core.Path.{sym, ap, _∙_}
 use borrow.Author.Needs.{needs}
 use Rattle.range.proofs.value_is_set.Statement.{statement}
 use Rattle.range.proofs.value_is_set.Tie as tie
-use Rattle.range.proofs.value_is_set.Reads as reads
-use Rattle.range.proofs.value_is_set.Lts as lts
-use Rattle.message.proofs.value_in.Reads as value-in-reads
 
--- src/lib.rt:71:11
 value-in-requires : tie.Need-value-in-requires
 value-in-requires c κs = search needs
 
--- src/lib.rt:72:26
 enum-told : tie.Need-enum-told
 enum-told c = search needs
 
--- src/lib.rt:73:29
 enum-told-2 : tie.Need-enum-told-2
 enum-told-2 c = search needs
 
--- src/lib.rt:74:29
 enum-told-3 : tie.Need-enum-told-3
 enum-told-3 c = search needs
 
--- src/lib.rt:75:30
 enum-told-4 : tie.Need-enum-told-4
 enum-told-4 c = search needs
 
--- src/lib.rt:76:30
 enum-told-5 : tie.Need-enum-told-5
 enum-told-5 c = search needs
 
--- src/lib.rt:68:1
 returns : tie.Need-returns
-returns c = ?
+unfolding isSet valueAt
+returns c = rw (← c .before .before .value-in .ensures, c .enum-told .given .1)
 
--- src/lib.rt:68:1
 returns-2 : tie.Need-returns-2
-returns-2 c = ?
+unfolding isSet valueAt
+returns-2 c = rw (← c .before .before .value-in .ensures, c .enum-told2 .given .1)
 
--- src/lib.rt:68:1
 returns-3 : tie.Need-returns-3
-returns-3 c = ?
+unfolding isSet valueAt
+returns-3 c = rw (← c .before .before .value-in .ensures, c .enum-told3 .given .1)
 
--- src/lib.rt:68:1
 returns-4 : tie.Need-returns-4
-returns-4 c = ?
+unfolding isSet valueAt
+returns-4 c = rw (← c .before .before .value-in .ensures, c .enum-told4 .given .1)
 
--- src/lib.rt:68:1
 returns-5 : tie.Need-returns-5
-returns-5 c = ?
+unfolding isSet valueAt
+returns-5 c = rw (← c .before .before .value-in .ensures, c .enum-told5 .given .1)
 
 pub value-is-set-spec : {M : Type 1} → statement M
 value-is-set-spec =

@@ -1,34 +1,30 @@
+use Rattle.range.specs.Range.{windowFits}
+use Rattle.message.specs.Message.{windowSize}
+use mathlib.Core.Path.{sym, _∙_}
 use borrow.Author.Needs.{needs}
 use Rattle.range.proofs.window_fits.Statement.{statement}
 use Rattle.range.proofs.window_fits.Tie as tie
-use Rattle.range.proofs.window_fits.Reads as reads
-use Rattle.range.proofs.window_fits.Lts as lts
-use Rattle.range.proofs.moment_in.Reads as moment-in-reads
-use Rattle.range.proofs.number_fits.Reads as number-fits-reads
 
--- src/lib.rt:156:8
 moment-in-requires : tie.Need-moment-in-requires
 moment-in-requires c κs = search needs
 
--- src/lib.rt:157:12
 number-fits-requires : tie.Need-number-fits-requires
 number-fits-requires c κs = search needs
 
--- src/lib.rt:158:13
 number-fits-requires-2 : tie.Need-number-fits-requires-2
 number-fits-requires-2 c κs = search needs
 
--- src/lib.rt:158:13
 returns : tie.Need-returns
-returns c = ?
+unfolding windowFits windowSize
+returns c = rw (sym (c .before .before .before .before .moment-in .ensures) ∙ c .before .before .before .if1 .taken, sym (c .before .before .number-fits .ensures) ∙ c .before .if2 .taken) (c .number-fits2 .ensures)
 
--- src/lib.rt:160:9
 returns-2 : tie.Need-returns-2
-returns-2 c = ?
+unfolding windowFits windowSize
+returns-2 c = rw (sym (c .before .before .before .moment-in .ensures) ∙ c .before .before .if1 .taken, sym (c .before .number-fits .ensures) ∙ c .if2 .left)
 
--- src/lib.rt:153:1
 returns-3 : tie.Need-returns-3
-returns-3 c = ?
+unfolding windowFits windowSize
+returns-3 c = rw (sym (c .before .moment-in .ensures) ∙ c .if1 .left)
 
 pub window-fits-spec : {M : Type 1} → statement M
 window-fits-spec =
