@@ -10,6 +10,7 @@ use lib.ListN.{length, getD, take, drop, length-drop}
 use lib.Seq.{getD-drop, take-nil}
 use lib.Dec.{ltb, leb}
 use borrow.Author.Tests.{lt-ltb, le-ltb}
+use Rattle.laws.proofs.Parts.{part-drop}
 use Rattle.laws.specs.Base.{pick, part}
 use Rattle.laws.proofs.Order.{lt-or-le}
 use Rattle.encoding.specs.Varint.{above, varintFrom, varintAt}
@@ -88,12 +89,6 @@ module _ (d : List ℕ) (a : ℕ) where
   shifted-all (suc k) i =
       ap (λ (r : Varint). onVarint (varintsFrom k d) r) (shifted 9 i)
       ∙ shifted-on (varintsFrom k d) (varintsFrom k (drop a d)) (shifted-all k) (varintAt (drop a d) i)
-
-part-drop : (s : List ℕ) (a e : ℕ) → part s a e ≡ drop a (take e s)
-part-drop s zero e = simp unary-clauses
-part-drop [] (suc a) e = simp take-nil
-part-drop (x ∷ s) (suc a) zero = let h : 0 - suc a ≡ 0 = omega arith in rw h
-part-drop (x ∷ s) (suc a) (suc e) = simp unary-clauses (part-drop s a e)
 
 -- packed numbers, read in the message from where they start up to where they end
 pub packed : (s : List ℕ) (a e : ℕ) → varints (part s a e) ≡ varintsAt (take e s) a

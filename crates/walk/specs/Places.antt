@@ -50,7 +50,7 @@ ioBufferOf s = ioRead (checkOf 6 s) (timeIn 1 s) (lastIn 2 2 s)
 -- a member from a to e: an I/O buffer by its values, its data at the whole's places
 unfoldable pub memberRead : ℕ → ℕ → ℕ → Bool → IoRead → ClientRead
 memberRead f a e true (ioread.Fine x y b c) = client.Io f x y (a + b) (a + c)
-memberRead f a e true (ioread.Refused r p) = client.NoMember
+memberRead f a e true (ioread.Refused r p) = client.Member f a e
 memberRead f a e false i = client.Member f a e
 
 unfoldable pub clientFrom : List ℕ → Last → ClientRead

@@ -1,0 +1,92 @@
+-- The answers of the one-walk reader mean what the definitions of a ClientMessage say.
+use Prim.Native.Nat.{ℕ, _+_, _-_, _≤_}
+use native.Mathlib.Omega.{arith}
+use mathlib.Core.Path.{_≡_, refl, sym, ap, _∙_}
+use mathlib.Core.List.{List}
+use mathlib.Core.Bool.{Bool, true, false}
+use lib.ListN.{length}
+use lib.Dec.{T, leb, eqb, leb→le}
+use borrow.Author.Tests.{le-leb, ne-eqb, eqb-true, eq-eqb}
+use Rattle.laws.specs.Base.{pick, both, part}
+use Rattle.laws.proofs.Parts.{part-part, length-part}
+use Rattle.encoding.specs.Schema.{schema, kindOf}
+use Rattle.encoding.specs.Check.{checkOf}
+use Rattle.encoding.specs.Fields.{lastIn, startFrom, endFrom}
+use Rattle.encoding.specs.Items.{Item, items, lastItem}
+use Rattle.encoding.specs.declared.check.Checked.{Checked}
+use Rattle.encoding.specs.declared.check.Checked.the-variants as checked
+use Rattle.encoding.specs.declared.fields.Last.{Last}
+use Rattle.encoding.specs.declared.fields.Last.the-variants as last
+use Rattle.encoding.proofs.Rows.{kinds}
+use Rattle.encoding.proofs.Follow.{LastLies, last-in-lies, span-lies}
+use Rattle.encoding.proofs.Items.{contentOf, last-means, bytes-means}
+use Rattle.walk.specs.Places.{timeIn, ioRead, ioBufferOf, memberRead, clientFrom, clientRead, clientOf}
+use Rattle.walk.specs.declared.time.Time.{Time}
+use Rattle.walk.specs.declared.io.IoRead.the-variants as ioread
+use Rattle.walk.specs.declared.client.ClientRead.{ClientRead}
+use Rattle.walk.specs.declared.client.ClientRead.the-variants as client
+use Rattle.message.specs.Message.{Client, clientMember, ioBuf, timed}
+use Rattle.message.specs.Places.{timeValue}
+use Rattle.message.proofs.Meaning.{time-means}
+use Rattle.wire.specs.Read.{Reading, value, refused, after, member, clientMessage}
+use Rattle.wire.specs.Places.{clientValue}
+
+-- the members whose message is an IoBuffer are 6 to 10
+io-rule : ℕ → ℕ → Bool
+io-rule n k = pick (eqb k 22) (both (leb 6 n) (leb n 10)) true
+
+both-both : (a b : Bool) → T (both a b) → T a × T b
+both-both true b t = (tt, t)
+both-both false b t = absurd t
+
+io-numbers : (f : ℕ) → kindOf 0 f ≡ 22 → (6 ≤ f) × (f ≤ 10)
+unfolding io-rule kindOf schema
+io-numbers f e =
+    let h = both-both (leb 6 f) (leb f 10) (rw (eq-eqb _ _ e) at (kinds 0 io-rule tt (λ n l. tt) f)) in
+    (leb→le _ _ (h .0), leb→le _ _ (h .1))
+
+io-member : (f : ℕ) (is : List Item) → kindOf 0 f ≡ 22 → clientMember f is ≡ ioBuf f (timed is)
+unfolding clientMember
+io-member f is e =
+    let h = io-numbers f e in
+    rw (ne-eqb f 1 (omega arith), ne-eqb f 2 (omega arith), ne-eqb f 3 (omega arith), ne-eqb f 4 (omega arith), ne-eqb f 5 (omega arith), le-leb f 10 (h .1))
+
+-- an I/O buffer's values, its data by its place in the whole message
+io-value : (s : List ℕ) (a e : ℕ) → a ≤ e → e ≤ length s
+    → timed (items (part s a e))
+    ≡ record { delay = timeValue (timeIn 1 (part s a e)); contents = part s (a + startFrom (lastIn 2 2 (part s a e))) (a + endFrom (lastIn 2 2 (part s a e))) }
+unfolding timed
+io-value s a e h l =
+    let p : List ℕ = part s a e in
+    let i = span-lies p 2 in
+    let w : endFrom (lastIn 2 2 p) ≤ e - a = omega (arith, length-part s a e h l, i .1) in
+    rw (time-means 1 p, ← part-part s a e (startFrom (lastIn 2 2 p)) (endFrom (lastIn 2 2 p)) w, bytes-means p 2)
+
+module _ (s : List ℕ) (f a e : ℕ) (h : a ≤ e) (l : e ≤ length s) where
+  io-told : (c : Checked) → kindOf 0 f ≡ 22
+      → clientValue s (memberRead f a e true (ioRead c (timeIn 1 (part s a e)) (lastIn 2 2 (part s a e)))) ≡ value (clientMember f (items (part s a e)))
+  unfolding clientValue memberRead ioRead
+  io-told checked.Fine k = rw (io-member f (items (part s a e)) k, io-value s a e h l)
+  io-told (checked.Refused r p) k = refl
+
+  told : (t : Bool) → eqb (kindOf 0 f) 22 ≡ t → clientValue s (memberRead f a e t (ioBufferOf (part s a e))) ≡ value (clientMember f (items (part s a e)))
+  unfolding clientValue memberRead
+  told true k = io-told (checkOf 6 (part s a e)) (eqb-true (kindOf 0 f) 22 k)
+  told false k = refl
+
+from : (s : List ℕ) (x : Last) → LastLies s x → clientValue s (clientFrom s x) ≡ member (λ n d. clientMember n (items d)) (contentOf s x)
+unfolding clientFrom clientValue member
+from s last.Nothing h = refl
+from s (last.Number f v) h = refl
+from s (last.Part f a e) h = told s f a e (h .0) (h .1) (eqb (kindOf 0 f) 22) refl
+
+checked-first : (s : List ℕ) (c : Checked) (x : ClientRead) → clientValue s (clientRead c x) ≡ after c (clientValue s x)
+unfolding clientRead clientValue after
+checked-first s checked.Fine x = refl
+checked-first s (checked.Refused r p) x = refl
+
+pub client-means : (s : List ℕ) → clientValue s (clientOf s) ≡ clientMessage s
+unfolding clientMessage
+client-means s =
+    checked-first s (checkOf 0 s) (clientFrom s (lastIn 1 13 s))
+    ∙ ap (after (checkOf 0 s)) (from s (lastIn 1 13 s) (last-in-lies s 1 13) ∙ ap (member (λ n d. clientMember n (items d))) (last-means s 1 13))

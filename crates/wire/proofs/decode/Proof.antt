@@ -1,0 +1,41 @@
+use Rattle.wire.specs.Read.{decodeNumber, checkNumber}
+use mathlib.Core.Path.{sym, _∙_}
+use borrow.Author.Needs.{needs}
+use Rattle.wire.proofs.decode.Statement.{statement}
+use Rattle.wire.proofs.decode.Tie as tie
+
+check-requires : tie.Need-check-requires
+check-requires c κs = search needs
+
+enum-known-refusal : tie.Need-enum-known-refusal
+enum-known-refusal c = search needs
+
+enum-told : tie.Need-enum-told
+enum-told c = search needs
+
+no-member-requires : tie.Need-no-member-requires
+no-member-requires c κs = search needs
+
+returns : tie.Need-returns
+unfolding decodeNumber checkNumber
+returns c = rw (sym (c .before .before .before .before .check .ensures) ∙ c .before .before .enum-told .given .1, sym (c .before .no-member .ensures) ∙ c .if1 .taken)
+
+returns-2 : tie.Need-returns-2
+unfolding decodeNumber checkNumber
+returns-2 c = rw (sym (c .before .before .before .check .ensures) ∙ c .before .refusal .given .1)
+
+returns-3 : tie.Need-returns-3
+unfolding decodeNumber checkNumber
+returns-3 c = rw (sym (c .before .before .before .before .check .ensures) ∙ c .before .before .enum-told .given .1, sym (c .before .no-member .ensures) ∙ c .if1 .left)
+
+pub decode-spec : {M : Type 1} → statement M
+decode-spec =
+    tie.close
+    (tie.spec
+    check-requires
+    enum-known-refusal
+    enum-told
+    no-member-requires
+    returns
+    returns-2
+    returns-3)

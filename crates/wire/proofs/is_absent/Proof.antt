@@ -1,0 +1,35 @@
+use Rattle.wire.specs.Read.{isAbsent}
+use Rattle.encoding.proofs.Items.{last-means}
+use mathlib.Core.Path.{sym, _∙_}
+use borrow.Author.Needs.{needs}
+use Rattle.wire.proofs.is_absent.Statement.{statement}
+use Rattle.wire.proofs.is_absent.Tie as tie
+
+last-in-requires : tie.Need-last-in-requires
+last-in-requires c κs = search needs
+
+enum-told : tie.Need-enum-told
+enum-told c = search needs
+
+enum-told-2 : tie.Need-enum-told-2
+enum-told-2 c = search needs
+
+enum-told-3 : tie.Need-enum-told-3
+enum-told-3 c = search needs
+
+returns : tie.Need-returns
+unfolding isAbsent
+returns c = let a = c .before .before .before .before .args in rw (← last-means (a .s .now) (a .lo) (a .hi), sym (c .before .before .last-in .ensures) ∙ c .enum-told .given .1)
+
+returns-2 : tie.Need-returns-2
+unfolding isAbsent
+returns-2 c = let a = c .before .before .before .before .args in rw (← last-means (a .s .now) (a .lo) (a .hi), sym (c .before .before .last-in .ensures) ∙ c .enum-told2 .given .1)
+
+returns-3 : tie.Need-returns-3
+unfolding isAbsent
+returns-3 c = let a = c .before .before .before .before .args in rw (← last-means (a .s .now) (a .lo) (a .hi), sym (c .before .before .last-in .ensures) ∙ c .enum-told3 .given .1)
+
+pub is-absent-spec : {M : Type 1} → statement M
+is-absent-spec =
+    tie.close
+    (tie.spec last-in-requires enum-told enum-told-2 enum-told-3 returns returns-2 returns-3)

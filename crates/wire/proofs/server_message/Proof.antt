@@ -1,0 +1,60 @@
+use Rattle.wire.specs.Places.{serverValue}
+use Rattle.wire.specs.Read.{serverMessage, after, member}
+use Rattle.encoding.proofs.Items.{last-means}
+use mathlib.Core.Path.{sym, _∙_}
+use borrow.Author.Needs.{needs}
+use Rattle.wire.proofs.server_message.Statement.{statement}
+use Rattle.wire.proofs.server_message.Tie as tie
+
+check-requires : tie.Need-check-requires
+check-requires c κs = search needs
+
+enum-known-refusal : tie.Need-enum-known-refusal
+enum-known-refusal c = search needs
+
+enum-told : tie.Need-enum-told
+enum-told c = search needs
+
+last-in-requires : tie.Need-last-in-requires
+last-in-requires c κs = search needs
+
+enum-told-2 : tie.Need-enum-told-2
+enum-told-2 c = search needs
+
+enum-told-3 : tie.Need-enum-told-3
+enum-told-3 c = search needs
+
+enum-known-number : tie.Need-enum-known-number
+enum-known-number c = search needs
+
+returns : tie.Need-returns
+unfolding serverValue serverMessage after member
+returns c = rw (sym (c .before .before .before .check .ensures) ∙ c .before .refusal .given .1)
+
+returns-2 : tie.Need-returns-2
+unfolding serverValue serverMessage after member
+returns-2 c = rw (sym (c .before .before .before .before .before .check .ensures) ∙ c .before .before .before .enum-told .given .1, ← last-means (c .before .before .before .before .before .before .before .args .s .now) 1 5, sym (c .before .before .last-in .ensures) ∙ c .enum-told2 .given .1)
+
+returns-3 : tie.Need-returns-3
+unfolding serverValue serverMessage after member
+returns-3 c = rw (sym (c .before .before .before .before .before .check .ensures) ∙ c .before .before .before .enum-told .given .1, ← last-means (c .before .before .before .before .before .before .before .args .s .now) 1 5, sym (c .before .before .last-in .ensures) ∙ c .enum-told3 .given .1)
+
+returns-4 : tie.Need-returns-4
+unfolding serverValue serverMessage after member
+returns-4 c = rw (sym (c .before .before .before .before .before .before .check .ensures) ∙ c .before .before .before .before .enum-told .given .1, ← last-means (c .before .before .before .before .before .before .before .before .args .s .now) 1 5, sym (c .before .before .before .last-in .ensures) ∙ c .before .number .given .1)
+
+pub server-message-spec : {M : Type 1} → statement M
+server-message-spec =
+    tie.close
+    (tie.spec
+    check-requires
+    enum-known-refusal
+    enum-told
+    last-in-requires
+    enum-told-2
+    enum-told-3
+    enum-known-number
+    returns
+    returns-2
+    returns-3
+    returns-4)
