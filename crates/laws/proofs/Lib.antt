@@ -2,3 +2,4 @@ pub mod Order
 pub mod Table
 pub mod Parts
 pub mod Tests
+pub mod Splice

@@ -1,8 +1,8 @@
--- Notions that all definitions share: a choice by a test, and a part of a list.
-use Prim.Native.Nat.{ℕ, _-_}
-use mathlib.Core.List.{List}
+-- Notions that all definitions share: a choice by a test, a part of a list, bytes laid over others.
+use Prim.Native.Nat.{ℕ, _+_, _-_}
+use mathlib.Core.List.{List, _++_}
 use mathlib.Core.Bool.{Bool, true, false}
-use lib.ListN.{take, drop}
+use lib.ListN.{length, take, drop}
 
 -- the first where the test holds, else the second
 abbrev pub pick : {A : Type 0} → Bool → A → A → A
@@ -17,3 +17,7 @@ both false b = false
 -- the elements from place a up to place e
 abbrev pub part : {A : Type 0} → List A → ℕ → ℕ → List A
 part s a e = take (e - a) (drop a s)
+
+-- a list with bs in place of as many elements from `at` on
+unfoldable pub splice : {A : Type 0} → List A → ℕ → List A → List A
+splice s at bs = take at s ++ bs ++ drop (at + length bs) s
