@@ -4,12 +4,15 @@
  * The first part declares what libsudolog.a exports: functions on numbers and byte slices (a pointer
  * and a length). None of them trusts its caller: every slice of every length has an answer, nothing is
  * kept between calls, nothing is allocated, and a refusal writes nothing. A slice of length 0 may have
- * any pointer but NULL; the readers in the second part take NULL too.
+ * any pointer but NULL; the readers in the second part take NULL too. The functions that give values are
+ * meant for slices that sudolog_decode or sudolog_read takes; of any other slice they give those of the
+ * fields before the first that can't be read. A message number above 15 names a message with no fields:
+ * all are skipped.
  *
  * The second part is written over the first, in C: a struct for each message of sudo_logsrv.proto and
  * a reader that fills it.
  *
- * Refusals are the numbers of the refusal table (docs/REFUSALS.md): 1 frame too long, 2 varint, 3 length
+ * Refusals are document 01's numbers (README.md has the table): 1 frame too long, 2 varint, 3 length
  * past the end, 4 bad tag or wire type, 5 known field with another wire type, 6 no member, 7 out of
  * range, 12 no room in the buffer that was lent. 0 says: no refusal.
  */
@@ -88,13 +91,14 @@ uint64_t sudolog_next_length(uint64_t field, const uint8_t *s, size_t n, size_t 
 
 /* A NumberList's numbers, one after the other, packed or not: 1 and three numbers of 8 bytes in `out`,
  * most significant byte first (the number's 64 bits, the next `at`, the next `end`); 0 where there is
- * none left; 12 where `room` is below 24. Begin with at 0 and end 0. */
+ * none left; 12 where there is one and `room` is below 24. Begin with at 0 and end 0. */
 uint8_t sudolog_next_number(const uint8_t *s, size_t n, size_t at, size_t end, uint8_t *out, size_t room);
 
-/* Reads a ClientMessage in one walk: as sudolog_decode, and on 0 seven numbers of 8 bytes in `out`, most
- * significant byte first: the member's field number, where it lies in s (offset, length) and, of the
- * I/O buffers 6 to 10, the delay's seconds and nanoseconds and where the data lies (offset, length); of
- * other members these last four are 0. 12 where `room` is below 56. */
+/* Reads a ClientMessage in one walk: as sudolog_decode, then 12 where `room` is below 40, and on 0 five
+ * numbers of 8 bytes in `out`, most significant byte first: the member's field number; an offset and a
+ * length in s, of the I/O buffers 6 to 10 those of their data, of other members those of their message;
+ * and the seconds and nanoseconds of an I/O buffer's delay as sudolog_number gives them, 0 and 0 of other
+ * members. */
 uint8_t sudolog_client(const uint8_t *s, size_t n, uint8_t *out, size_t room);
 
 #ifdef __cplusplus
@@ -291,9 +295,8 @@ struct sudolog_server_message {
 /* A ClientMessage as sudolog_scan_client finds it. */
 struct sudolog_client_scan {
     int member;                  /* as in sudolog_client_message */
-    struct sudolog_span content; /* as in sudolog_client_message */
+    struct sudolog_span content; /* of the members 6 to 10 their data; otherwise as in sudolog_client_message */
     struct sudolog_time delay;   /* of the members 6 to 10; otherwise 0 s 0 ns */
-    struct sudolog_span data;    /* of the members 6 to 10, a span of the whole slice; otherwise length 0 */
 };
 
 /* The eight bytes at p as a number, most significant byte first: how the library writes numbers. */
@@ -538,7 +541,7 @@ SUDOLOG_READERS(time, SUDOLOG_TIME_SPEC)
  * negative here. */
 static inline int sudolog_scan_client(const uint8_t *m, size_t n, struct sudolog_client_scan *out)
 {
-    uint8_t numbers[56];
+    uint8_t numbers[40];
     int refusal = sudolog_client(sudolog_lend(m), n, numbers, sizeof numbers);
     if (refusal != 0)
         return refusal;
@@ -547,8 +550,6 @@ static inline int sudolog_scan_client(const uint8_t *m, size_t n, struct sudolog
     out->content.length = (size_t)sudolog_big_endian(numbers + 16);
     out->delay.seconds = sudolog_int64(sudolog_big_endian(numbers + 24));
     out->delay.nanoseconds = sudolog_int32(sudolog_big_endian(numbers + 32));
-    out->data.offset = (size_t)sudolog_big_endian(numbers + 40);
-    out->data.length = (size_t)sudolog_big_endian(numbers + 48);
     return 0;
 }
 

@@ -8,7 +8,7 @@
  *   frame HEX         sudolog_cut_frame: {"frame":n}, {"wait":n} or {"refused":1}
  *   decode NAME HEX   sudolog_decode_..: NAME as in sudo_logsrv.proto
  *   read NAME HEX     sudolog_read_..
- *   scan HEX          sudolog_scan_client: the value as of decode ClientMessage, and "delay" and "data"
+ *   scan HEX          sudolog_scan_client: answered as decode ClientMessage
  */
 #define _DEFAULT_SOURCE
 #include "sudolog.h"
@@ -369,17 +369,25 @@ static bool answer_message(const char *name, bool ranges, struct bytes in)
     return false;
 }
 
+static void put_scan(const uint8_t *m, const struct sudolog_client_scan *v)
+{
+    if (v->member >= SUDOLOG_FROM_CLIENT_TTYIN && v->member <= SUDOLOG_FROM_CLIENT_STDERR) {
+        struct sudolog_io_buffer io = { .delay = v->delay, .data = v->content };
+        printf("{\"type\":[%d,", v->member);
+        put_io_buffer(m, &io);
+        fputs("]}", stdout);
+    } else {
+        put_client_member(v->member, m, v->content);
+    }
+}
+
 static bool answer_scan(struct bytes in)
 {
     struct sudolog_client_scan scan;
     int refusal = sudolog_scan_client(in.m, in.n, &scan);
     if (refusal == 0) {
         put_name("{", "value");
-        put_client_member(scan.member, in.m, scan.content);
-        put_name(",", "delay");
-        put_time(in.m, &scan.delay);
-        put_name(",", "data");
-        put_bytes(in.m, scan.data);
+        put_scan(in.m, &scan);
     }
     end_answer(refusal);
     return true;

@@ -13,7 +13,6 @@ MADE = os.path.join(ROOT, "target", "staticlib", "libsudolog.a")
 HELP = """The library is target/staticlib/libsudolog.a (rt staticlib sudolog), or the archive
 that SUDOLOG_LIB names."""
 
-IO_BUFFERS = range(6, 11)
 
 
 def archive():
@@ -52,11 +51,3 @@ class Library:
             sys.exit(f"the driver ended (status {self.driver.wait()}) at: {' '.join(words)[:2000]}")
         return json.loads(answer)
 
-
-def scan_of(decoded):
-    """What sudolog_scan_client should answer where a ClientMessage is decoded so."""
-    if "value" not in decoded:
-        return decoded
-    member, content = decoded["value"]["type"]
-    held = content if member in IO_BUFFERS else {"delay": [0, 0], "data": ""}
-    return {"value": decoded["value"], "delay": held["delay"], "data": held["data"]}
