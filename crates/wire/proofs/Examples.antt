@@ -1,0 +1,28 @@
+-- The marked examples compute.
+use mathlib.Core.Path.{_≡_, refl}
+use Rattle.frame.specs.Frame.{cutOf, lengthOf}
+use Rattle.encoding.specs.Varint.{varintFrom}
+use Rattle.encoding.specs.Schema.{schema, kindOf, takes}
+use Rattle.encoding.specs.Field.{tagFits, tagOf, tagAt, fixedAt, numberOf, partOf, payloadAt, stepOf, stepFrom, stepAt}
+use Rattle.encoding.specs.Check.{before, onStep, checkFrom, checkAt}
+use Rattle.encoding.specs.Fields.{fieldOf, fieldFrom, fieldAt, onField, fieldsFrom, fieldsAt, among}
+use Rattle.encoding.specs.Items as i
+use Rattle.encoding.specs.Items.{items, lastFrom, bytesOf}
+use Rattle.message.specs.Signed.{signed, int64, int32}
+use Rattle.message.specs.Message.{timeSpec, timeField, timed, clientMember, serverMember}
+use Rattle.wire.specs.Read.{after, member, clientMessage, serverMessage}
+use Rattle.wire.specs.Examples.{ReadingExamples}
+
+pub reading-examples : ReadingExamples
+unfolding cutOf lengthOf varintFrom schema kindOf takes tagFits tagOf tagAt fixedAt numberOf partOf payloadAt stepOf stepFrom stepAt before onStep checkFrom checkAt fieldOf fieldFrom fieldAt onField fieldsFrom fieldsAt among items lastFrom bytesOf i.numberOf signed int64 int32 timeSpec timeField timed clientMember serverMember after member clientMessage serverMessage
+reading-examples = record {
+  one = refl;
+  two-frame = refl;
+  two = refl;
+  four-minus-one = refl;
+  four-least = refl;
+  four-greatest = refl;
+  five = refl;
+  six-frame = refl;
+  six = refl;
+}
