@@ -7,30 +7,29 @@ use lib.ListN.{length}
 use borrow.Author.Tests.{lt-ltb, le-ltb}
 use Rattle.laws.specs.Base.{splice}
 use Rattle.elements.specs.Elements.{numbersAt}
-use Rattle.sudolog.specs.Answers.{eights, nextAnswer, Laid, NextNumber}
+use Rattle.sudolog.specs.Answers.{eights, nextAnswer, Laid, NextBuffer}
 
 module _ (s : List ℕ) (at end : ℕ) (out : List ℕ) where
-  pub none-left : [] ≡ numbersAt s at end → NextNumber s at end out 0 out
+  -- the answer r with the buffer left
+  abbrev pub Answered : ℕ → List ℕ → Type 0
+  Answered r left = (r ≡ nextAnswer (numbersAt s at end) (length out)) × NextBuffer s at end out r left
+
+  -- nothing laid: the buffer is as it was
+  unlaid : (r : ℕ) → (r ≡ 1 → ⊥) → NextBuffer s at end out r out
+  unlaid r h = record { one = λ e. absurd (h e); other = λ _. refl }
+
+  pub none-left : [] ≡ numbersAt s at end → Answered 0 out
   unfolding nextAnswer
-  none-left h = record {
-    answer = subst (λ (ns : List ℕ). 0 ≡ nextAnswer ns (length out)) h refl;
-    one = λ e. absurd (omega arith);
-    other = λ _. refl;
-  }
+  none-left h = (subst (λ (ns : List ℕ). 0 ≡ nextAnswer ns (length out)) h refl, unlaid 0 (λ e. omega arith))
 
   module _ (v n m : ℕ) (h : v ∷ numbersAt s n m ≡ numbersAt s at end) where
-    pub no-room : length out < 24 → NextNumber s at end out 12 out
+    pub no-room : length out < 24 → Answered 12 out
     unfolding nextAnswer
-    no-room l = record {
-      answer = subst (λ (ns : List ℕ). 12 ≡ nextAnswer ns (length out)) h (rw (lt-ltb _ _ l));
-      one = λ e. absurd (omega arith);
-      other = λ _. refl;
-    }
+    no-room l = (subst (λ (ns : List ℕ). 12 ≡ nextAnswer ns (length out)) h (rw (lt-ltb _ _ l)), unlaid 12 (λ e. omega arith))
 
-    pub number-laid : (left : List ℕ) → 24 ≤ length out → left ≡ splice out 0 (eights (v ∷ n ∷ m ∷ [])) → NextNumber s at end out 1 left
+    pub number-laid : (left : List ℕ) → 24 ≤ length out → left ≡ splice out 0 (eights (v ∷ n ∷ m ∷ [])) → Answered 1 left
     unfolding nextAnswer
-    number-laid left l e = record {
-      answer = subst (λ (ns : List ℕ). 1 ≡ nextAnswer ns (length out)) h (rw (le-ltb _ _ l));
-      one = λ _. record { number = v; next = n; stop = m; laid = e; tells = h };
-      other = λ no. absurd (no refl);
-    }
+    number-laid left l e = (
+      subst (λ (ns : List ℕ). 1 ≡ nextAnswer ns (length out)) h (rw (le-ltb _ _ l)),
+      record { one = λ _. record { number = v; next = n; stop = m; laid = e; tells = h }; other = λ no. absurd (no refl) },
+    )

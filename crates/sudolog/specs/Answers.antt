@@ -75,8 +75,7 @@ pub record Laid (s : List ℕ) (at end : ℕ) (out left : List ℕ) : Type 0 whe
   pub laid : left ≡ splice out 0 (eights (number ∷ next ∷ stop ∷ []))
   pub tells : number ∷ numbersAt s next stop ≡ numbersAt s at end
 
--- the answer r, and the buffer: unchanged but where the answer is 1
-pub record NextNumber (s : List ℕ) (at end : ℕ) (out : List ℕ) (r : ℕ) (left : List ℕ) : Type 0 where
-  pub answer : r ≡ nextAnswer (numbersAt s at end) (length out)
+-- the buffer where the answer is r: unchanged but where it is 1
+pub record NextBuffer (s : List ℕ) (at end : ℕ) (out : List ℕ) (r : ℕ) (left : List ℕ) : Type 0 where
   pub one : r ≡ 1 → Laid s at end out left
   pub other : (r ≡ 1 → ⊥) → left ≡ out

@@ -22,9 +22,10 @@ ghost use lib.ListN.{length};
 ghost use Rattle.laws.specs.Base.{splice};
 ghost use Rattle.frame.specs.Frame.{cutOf, stateOf, countOf};
 ghost use Rattle.encoding.specs.Fields.{fieldsAt, lastIn, numberIn, spanIn, firstOf, memberFrom};
+ghost use Rattle.elements.specs.Elements.{numbersAt};
 ghost use Rattle.walk.specs.Places.{clientOf};
 ghost use Rattle.wire.specs.Read.{decodeNumber, readNumber};
-ghost use Rattle.sudolog.specs.Answers.{memberOf, offsetOf, lengthOf, eight, eights, clientAnswer, clientBuffer, NextNumber};
+ghost use Rattle.sudolog.specs.Answers.{memberOf, offsetOf, lengthOf, eight, eights, clientAnswer, clientBuffer, nextAnswer, NextBuffer};
 
 #[no_mangle]
 pub extern "C" fn sudolog_frame_state(s: &[u8]) -> u8
@@ -164,7 +165,8 @@ fn put_three(out: &mut [u8], a: u64, b: u64, c: u64)
 
 #[no_mangle]
 pub extern "C" fn sudolog_next_number(s: &[u8], at: usize, end: usize, out: &mut [u8]) -> u8
-    ensures { λ r. ⌜ NextNumber (now (s .entry)) at end (now (out .entry)) r (now (out .exit)) ⌝ }
+    ensures answer { λ r. ⌜ r ≡ nextAnswer (numbersAt (now (s .entry)) at end) (length (now (out .entry))) ⌝ }
+    ensures buffer { λ r. ⌜ NextBuffer (now (s .entry)) at end (now (out .entry)) r (now (out .exit)) ⌝ }
 {
     match next_number(s, at, end) {
         Next::Value {
