@@ -1,13 +1,14 @@
 -- The three answers of `sudolog_next_number`, by what is left at the cursor.
-use Prim.Native.Nat.{ℕ, _≤_, _<_}
+use Prim.Native.Nat.{ℕ}
 use native.Mathlib.Omega.{arith}
 use mathlib.Core.Path.{_≡_, refl, subst}
 use mathlib.Core.List.{List, [], _∷_}
 use lib.ListN.{length}
-use borrow.Author.Tests.{lt-ltb, le-ltb}
-use Rattle.laws.specs.Base.{splice}
+use mathlib.Core.Bool.{true, false}
+use lib.Dec.{leb}
+use Rattle.numbers.specs.Eight.{laid}
 use Rattle.elements.specs.Elements.{numbersAt}
-use Rattle.sudolog.specs.Answers.{eights, nextAnswer, Laid, NextBuffer}
+use Rattle.sudolog.specs.Answers.{nextAnswer, Laid, NextBuffer}
 
 module _ (s : List ℕ) (at end : ℕ) (out : List ℕ) where
   -- the answer r with the buffer left
@@ -23,13 +24,16 @@ module _ (s : List ℕ) (at end : ℕ) (out : List ℕ) where
   none-left h = (subst (λ (ns : List ℕ). 0 ≡ nextAnswer ns (length out)) h refl, unlaid 0 (λ e. omega arith))
 
   module _ (v n m : ℕ) (h : v ∷ numbersAt s n m ≡ numbersAt s at end) where
-    pub no-room : length out < 24 → Answered 12 out
-    unfolding nextAnswer
-    no-room l = (subst (λ (ns : List ℕ). 12 ≡ nextAnswer ns (length out)) h (rw (lt-ltb _ _ l)), unlaid 12 (λ e. omega arith))
+    pub no-room : (left : List ℕ) → leb 24 (length out) ≡ false → left ≡ laid (v ∷ n ∷ m ∷ []) out → Answered 12 left
+    unfolding nextAnswer laid
+    no-room left l e = (
+      subst (λ (ns : List ℕ). 12 ≡ nextAnswer ns (length out)) h (rw l),
+      record { one = λ no. absurd (omega arith); other = λ _. rw l at e },
+    )
 
-    pub number-laid : (left : List ℕ) → 24 ≤ length out → left ≡ splice out 0 (eights (v ∷ n ∷ m ∷ [])) → Answered 1 left
+    pub number-laid : (left : List ℕ) → leb 24 (length out) ≡ true → left ≡ laid (v ∷ n ∷ m ∷ []) out → Answered 1 left
     unfolding nextAnswer
     number-laid left l e = (
-      subst (λ (ns : List ℕ). 1 ≡ nextAnswer ns (length out)) h (rw (le-ltb _ _ l)),
-      record { one = λ _. record { number = v; next = n; stop = m; laid = e; tells = h }; other = λ no. absurd (no refl) },
+      subst (λ (ns : List ℕ). 1 ≡ nextAnswer ns (length out)) h (rw l),
+      record { one = λ _. record { number = v; next = n; stop = m; buffer = e; tells = h }; other = λ no. absurd (no refl) },
     )

@@ -1,14 +1,15 @@
 -- What the functions for C answer: the paper's numbers for each case, and numbers as bytes.
-use Prim.Native.Nat.{ℕ, _-_, _/_, _%_}
-use mathlib.Core.List.{List, [], _∷_, _++_}
+use Prim.Native.Nat.{ℕ, _-_}
+use mathlib.Core.List.{List, [], _∷_}
 use mathlib.Core.Path.{_≡_}
 use lib.ListN.{length}
-use lib.Dec.{ltb, eqb}
-use Rattle.laws.specs.Base.{pick, splice}
+use lib.Dec.{leb, eqb}
+use Rattle.laws.specs.Base.{pick}
 use Rattle.encoding.specs.Schema.{ClientMessage, InfoMessage, ServerMessage}
 use Rattle.encoding.specs.Fields.{lastIn, memberFrom}
 use Rattle.encoding.specs.declared.fields.Found.{Found}
 use Rattle.encoding.specs.declared.fields.Found.the-variants as found
+use Rattle.numbers.specs.Eight.{laid}
 use Rattle.elements.specs.Elements.{numbersAt}
 use Rattle.walk.specs.declared.client.ClientRead.{ClientRead}
 use Rattle.walk.specs.declared.client.ClientRead.the-variants as client
@@ -29,16 +30,6 @@ unfoldable pub lengthOf : Found → ℕ
 lengthOf (found.Part a e) = e - a
 lengthOf found.Nothing = 0
 
--- a number as eight bytes, most significant first, and numbers one after the other
-abbrev pub eight : ℕ → List ℕ
-eight v =
-    (v / 72057594037927936 % 256) ∷ (v / 281474976710656 % 256) ∷ (v / 1099511627776 % 256) ∷ (v / 4294967296 % 256)
-    ∷ (v / 16777216 % 256) ∷ (v / 65536 % 256) ∷ (v / 256 % 256) ∷ (v % 256) ∷ []
-
-unfoldable pub eights : List ℕ → List ℕ
-eights [] = []
-eights (v ∷ vs) = eight v ++ eights vs
-
 -- ---- sudolog_client
 
 -- the member, the place of its bytes (of an I/O buffer, of its data) and an I/O buffer's delay
@@ -50,21 +41,24 @@ clientNumbers (client.Refused n p) = []
 
 -- refusals 2 to 6, then 12 where the numbers have no room, else 0
 unfoldable pub clientAnswer : ClientRead → ℕ → ℕ
-clientAnswer (client.Io f x y a e) room = pick (ltb room 40) 12 0
-clientAnswer (client.Member f a e) room = pick (ltb room 40) 12 0
+clientAnswer (client.Io f x y a e) room = pick (leb 40 room) 0 12
+clientAnswer (client.Member f a e) room = pick (leb 40 room) 0 12
 clientAnswer client.NoMember room = 6
 clientAnswer (client.Refused n p) room = n
 
--- the buffer afterwards: the numbers where the answer is 0, else as it was
+-- the buffer afterwards: a refused message leaves it as it was
 unfoldable pub clientBuffer : ClientRead → List ℕ → List ℕ
-clientBuffer c out = pick (eqb (clientAnswer c (length out)) 0) (splice out 0 (eights (clientNumbers c))) out
+clientBuffer (client.Io f x y a e) out = laid (clientNumbers (client.Io f x y a e)) out
+clientBuffer (client.Member f a e) out = laid (clientNumbers (client.Member f a e)) out
+clientBuffer client.NoMember out = out
+clientBuffer (client.Refused n p) out = out
 
 -- ---- sudolog_next_number
 
 -- by the numbers that are left: 0 for none, then 12 where three numbers have no room, else 1
 unfoldable pub nextAnswer : List ℕ → ℕ → ℕ
 nextAnswer [] room = 0
-nextAnswer (v ∷ vs) room = pick (ltb room 24) 12 1
+nextAnswer (v ∷ vs) room = pick (leb 24 room) 1 12
 
 -- three numbers laid at the start of the buffer `out`, which is then `left`: the next number, and the cursor at which the
 -- others are. Which cursor that is, of those at which the same numbers are left, no paper says.
@@ -72,7 +66,7 @@ pub record Laid (s : List ℕ) (at end : ℕ) (out left : List ℕ) : Type 0 whe
   pub number : ℕ
   pub next : ℕ
   pub stop : ℕ
-  pub laid : left ≡ splice out 0 (eights (number ∷ next ∷ stop ∷ []))
+  pub buffer : left ≡ laid (number ∷ next ∷ stop ∷ []) out
   pub tells : number ∷ numbersAt s next stop ≡ numbersAt s at end
 
 -- the buffer where the answer is r: unchanged but where it is 1

@@ -11,21 +11,21 @@ use encoding::fields::part_in;
 use frame::count_of;
 use frame::cut_frame;
 use frame::state_of;
+use numbers::lay_five;
+use numbers::lay_three;
 use walk::client::ClientRead;
 use wire::client_message;
 use wire::decode;
 use wire::read;
 ghost use mathlib.Core.Path.{_≡_};
-ghost use Prim.Native.Nat.{_+_, _-_, _≤_};
-ghost use mathlib.Core.List.{[], _∷_};
+ghost use Prim.Native.Nat.{_-_};
 ghost use lib.ListN.{length};
-ghost use Rattle.laws.specs.Base.{splice};
 ghost use Rattle.frame.specs.Frame.{cutOf, stateOf, countOf};
 ghost use Rattle.encoding.specs.Fields.{fieldsAt, lastIn, numberIn, spanIn, firstOf, memberFrom};
 ghost use Rattle.elements.specs.Elements.{numbersAt};
 ghost use Rattle.walk.specs.Places.{clientOf};
 ghost use Rattle.wire.specs.Read.{decodeNumber, readNumber};
-ghost use Rattle.sudolog.specs.Answers.{memberOf, offsetOf, lengthOf, eight, eights, clientAnswer, clientBuffer, nextAnswer, NextBuffer};
+ghost use Rattle.sudolog.specs.Answers.{memberOf, offsetOf, lengthOf, clientAnswer, clientBuffer, nextAnswer, NextBuffer};
 
 #[no_mangle]
 pub extern "C" fn sudolog_frame_state(s: &[u8]) -> u8
@@ -138,31 +138,6 @@ pub extern "C" fn sudolog_next_length(field: u64, s: &[u8], at: usize) -> u64
     }
 }
 
-// Lays a number into a buffer, eight bytes, most significant first.
-fn put(out: &mut [u8], at: usize, v: u64)
-    requires { ⌜ at + 8 ≤ length (now out) ⌝ }
-    ensures { λ _. ⌜ now (out .exit) ≡ splice (now (out .entry)) at (eight v) ⌝ }
-{
-    out[at] = (v / 72057594037927936 % 256) as u8;
-    out[at + 1] = (v / 281474976710656 % 256) as u8;
-    out[at + 2] = (v / 1099511627776 % 256) as u8;
-    out[at + 3] = (v / 4294967296 % 256) as u8;
-    out[at + 4] = (v / 16777216 % 256) as u8;
-    out[at + 5] = (v / 65536 % 256) as u8;
-    out[at + 6] = (v / 256 % 256) as u8;
-    out[at + 7] = (v % 256) as u8;
-}
-
-// Lays three numbers at the start of a buffer.
-fn put_three(out: &mut [u8], a: u64, b: u64, c: u64)
-    requires { ⌜ 24 ≤ length (now out) ⌝ }
-    ensures { λ _. ⌜ now (out .exit) ≡ splice (now (out .entry)) 0 (eights (a ∷ b ∷ c ∷ [])) ⌝ }
-{
-    put(out, 0, a);
-    put(out, 8, b);
-    put(out, 16, c);
-}
-
 #[no_mangle]
 pub extern "C" fn sudolog_next_number(s: &[u8], at: usize, end: usize, out: &mut [u8]) -> u8
     ensures answer { λ r. ⌜ r ≡ nextAnswer (numbersAt (now (s .entry)) at end) (length (now (out .entry))) ⌝ }
@@ -174,26 +149,13 @@ pub extern "C" fn sudolog_next_number(s: &[u8], at: usize, end: usize, out: &mut
             at: next,
             end: stop,
         } => {
-            if out.len() < 24 {
-                return 12;
+            if lay_three(out, value, next as u64, stop as u64) {
+                return 1;
             }
-            put_three(out, value, next as u64, stop as u64);
-            1
+            12
         }
         Next::Nothing => 0,
     }
-}
-
-// Lays five numbers at the start of a buffer.
-fn put_five(out: &mut [u8], a: u64, b: u64, c: u64, d: u64, e: u64)
-    requires { ⌜ 40 ≤ length (now out) ⌝ }
-    ensures { λ _. ⌜ now (out .exit) ≡ splice (now (out .entry)) 0 (eights (a ∷ b ∷ c ∷ d ∷ e ∷ [])) ⌝ }
-{
-    put(out, 0, a);
-    put(out, 8, b);
-    put(out, 16, c);
-    put(out, 24, d);
-    put(out, 32, e);
 }
 
 #[no_mangle]
@@ -209,25 +171,18 @@ pub extern "C" fn sudolog_client(s: &[u8], out: &mut [u8]) -> u8
             start,
             end,
         } => {
-            if out.len() < 40 {
-                return 12;
+            let length = between(start, end);
+            if lay_five(out, member, start as u64, length, seconds, nanos) {
+                return 0;
             }
-            put_five(
-                out,
-                member,
-                start as u64,
-                between(start, end),
-                seconds,
-                nanos,
-            );
-            0
+            12
         }
         ClientRead::Member { member, start, end } => {
-            if out.len() < 40 {
-                return 12;
+            let length = between(start, end);
+            if lay_five(out, member, start as u64, length, 0, 0) {
+                return 0;
             }
-            put_five(out, member, start as u64, between(start, end), 0, 0);
-            0
+            12
         }
         ClientRead::NoMember => 6,
         ClientRead::Refused { refusal, place: _ } => refusal,

@@ -11,22 +11,25 @@ next-number-requires c κs = search needs
 enum-known-value : tie.Need-enum-known-value
 enum-known-value c = search needs
 
-returns : tie.Need-returns
-unfolding told
-returns c = let a = c .before .before .before .before .before .before .before .args in no-room (a .s .now) (a .at) (a .end) (a .out .now) _ _ _ (ap (told (a .s .now)) (sym (c .before .before .value .given .1)) ∙ c .before .before .before .before .next-number .ensures) (c .if1 .taken)
-
-put-three-requires : tie.Need-put-three-requires
-put-three-requires c κs = search needs
-
-enum-told : tie.Need-enum-told
-enum-told c = search needs
+lay-three-requires : tie.Need-lay-three-requires
+lay-three-requires c κs = search needs
 
 same-length : tie.Need-same-length
 same-length c = search needs
 
+returns : tie.Need-returns
+unfolding told
+returns c = let a = c .before .before .before .before .before .before .before .before .before .before .before .args in number-laid (a .s .now) (a .at) (a .end) (a .out .now) _ _ _ (ap (told (a .s .now)) (sym (c .before .before .before .before .before .before .value .given .1)) ∙ c .before .before .before .before .before .before .before .before .next-number .ensures) _ (sym (c .before .before .before .lay-three .ensures .0) ∙ c .if1 .taken) (c .before .before .before .lay-three .ensures .1)
+
+enum-told : tie.Need-enum-told
+enum-told c = search needs
+
+same-length-2 : tie.Need-same-length-2
+same-length-2 c = search needs
+
 returns-2 : tie.Need-returns-2
 unfolding told
-returns-2 c = let a = c .before .before .before .before .before .before .before .before .before .before .before .args in number-laid (a .s .now) (a .at) (a .end) (a .out .now) _ _ _ (ap (told (a .s .now)) (sym (c .before .before .before .before .before .before .value .given .1)) ∙ c .before .before .before .before .before .before .before .before .next-number .ensures) _ (c .before .before .before .before .if1 .left) (c .before .before .put-three .ensures)
+returns-2 c = let a = c .before .before .before .before .before .before .before .before .before .before .before .args in no-room (a .s .now) (a .at) (a .end) (a .out .now) _ _ _ (ap (told (a .s .now)) (sym (c .before .before .before .before .before .before .value .given .1)) ∙ c .before .before .before .before .before .before .before .before .next-number .ensures) _ (sym (c .before .before .before .lay-three .ensures .0) ∙ c .if1 .left) (c .before .before .before .lay-three .ensures .1)
 
 returns-3 : tie.Need-returns-3
 unfolding told
@@ -38,9 +41,10 @@ sudolog-next-number-spec =
     (tie.spec
     next-number-requires
     enum-known-value
-    returns
-    put-three-requires
-    enum-told
+    lay-three-requires
     same-length
+    returns
+    enum-told
+    same-length-2
     returns-2
     returns-3)

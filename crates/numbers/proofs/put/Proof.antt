@@ -1,11 +1,11 @@
-use Rattle.sudolog.specs.Answers.{eight}
+use Rattle.numbers.specs.Eight.{eight}
 use Rattle.laws.proofs.Splice.{sets-splice}
 use lib.ListN.{length-set}
 use native.Mathlib.Numerals.{towards-suc}
 use native.Mathlib.Omega.{arith}
 use borrow.Author.Needs.{needs}
-use Rattle.sudolog.proofs.put.Statement.{statement}
-use Rattle.sudolog.proofs.put.Tie as tie
+use Rattle.numbers.proofs.put.Statement.{statement}
+use Rattle.numbers.proofs.put.Tie as tie
 
 cast-out : tie.Need-cast-out
 cast-out c = search needs

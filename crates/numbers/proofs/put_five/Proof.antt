@@ -1,11 +1,11 @@
-use Rattle.sudolog.specs.Answers.{eight, eights}
+use Rattle.numbers.specs.Eight.{eight, eights}
 use mathlib.Core.List.{_++_}
 use mathlib.Core.Path.{refl}
 use Rattle.laws.proofs.Splice.{splice-next}
 use native.Mathlib.Omega.{arith}
 use borrow.Author.Needs.{needs}
-use Rattle.sudolog.proofs.put_five.Statement.{statement}
-use Rattle.sudolog.proofs.put_five.Tie as tie
+use Rattle.numbers.proofs.put_five.Statement.{statement}
+use Rattle.numbers.proofs.put_five.Tie as tie
 
 put-requires : tie.Need-put-requires
 put-requires c κs = search needs

@@ -1,0 +1,20 @@
+-- Numbers as bytes in a buffer.
+use Prim.Native.Nat.{ℕ, _*_, _/_, _%_}
+use mathlib.Core.List.{List, [], _∷_, _++_}
+use lib.ListN.{length}
+use lib.Dec.{leb}
+use Rattle.laws.specs.Base.{pick, splice}
+
+-- a number as eight bytes, most significant first, and numbers one after the other
+abbrev pub eight : ℕ → List ℕ
+eight v =
+    (v / 72057594037927936 % 256) ∷ (v / 281474976710656 % 256) ∷ (v / 1099511627776 % 256) ∷ (v / 4294967296 % 256)
+    ∷ (v / 16777216 % 256) ∷ (v / 65536 % 256) ∷ (v / 256 % 256) ∷ (v % 256) ∷ []
+
+unfoldable pub eights : List ℕ → List ℕ
+eights [] = []
+eights (v ∷ vs) = eight v ++ eights vs
+
+-- a buffer with numbers laid at its start; as it was where they have no room
+unfoldable pub laid : List ℕ → List ℕ → List ℕ
+laid vs out = pick (leb (8 * length vs) (length out)) (splice out 0 (eights vs)) out
