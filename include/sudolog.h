@@ -4,17 +4,17 @@
  * The first part declares what libsudolog.a exports: functions on numbers and byte slices (a pointer
  * and a length). None of them trusts its caller: every slice of every length has an answer, nothing is
  * kept between calls, nothing is allocated, and a refusal writes nothing. A slice of length 0 may have
- * any pointer but NULL; the readers in the second part take NULL too. The functions that give values are
- * meant for slices that sudolog_decode or sudolog_read takes; of any other slice they give those of the
- * fields before the first that can't be read. A message number above 15 names a message with no fields:
- * all are skipped.
+ * any pointer but NULL; the readers in the second part take NULL too, and for the writers sudolog_lend and
+ * its like make a pointer of NULL. The functions that give values are meant for slices that sudolog_decode
+ * or sudolog_read takes; of any other slice they give those of the fields before the first that can't be
+ * read. A message number above 15 names a message with no fields: all are skipped.
  *
  * The second part is written over the first, in C: a struct for each message of sudo_logsrv.proto and
- * a reader that fills it.
+ * a reader that fills it, and what a C program needs beside the writers.
  *
- * Refusals are document 01's numbers (README.md has the table): 1 frame too long, 2 varint, 3 length
- * past the end, 4 bad tag or wire type, 5 known field with another wire type, 6 no member, 7 out of
- * range, 12 no room in the buffer that was lent. 0 says: no refusal.
+ * Refusals are document 01's numbers (README.md has the table): 1 frame or message too long, 2 varint,
+ * 3 length past the end, 4 bad tag or wire type, 5 known field with another wire type, 6 no member, 7 out
+ * of range, 12 no room in the buffer that was lent. 0 says: no refusal.
  */
 #ifndef SUDOLOG_H
 #define SUDOLOG_H
@@ -100,6 +100,60 @@ uint8_t sudolog_next_number(const uint8_t *s, size_t n, size_t at, size_t end, u
  * and the seconds and nanoseconds of an I/O buffer's delay as sudolog_number gives them, 0 and 0 of other
  * members. */
 uint8_t sudolog_client(const uint8_t *s, size_t n, uint8_t *out, size_t room);
+
+/* ---- writing ----
+ *
+ * Each function writes one message into `out`, from its start, in the one form that document 01 gives it, and
+ * answers a number: its low 32 bits are how many bytes were written, the bits above them a refusal's number, 0
+ * for none. Refusals come in this order: 2 to 5 and 7 of the run of entries that was lent; 7 for a value outside
+ * its range; 1 for a message above 2,097,152 bytes; 12 where the message and its frame have no room. A refusal
+ * writes nothing.
+ *
+ * `member` is the field number of the message around it (a ClientMessage's or ServerMessage's member; for
+ * an entry 2 in an accept, 3 in a reject or an alert), or 0 to write the message by itself; any other is 7.
+ * `framed` puts the frame's four bytes before the message where it is not 0. Numbers are their 64 bits:
+ * cast an int64_t or an int32_t to uint64_t. Flags are true where they are not 0. A list of strings is lent as the
+ * strings joined and the place where each one ends; ends that fall, or a last one other than the joined length (0
+ * for none), are 7. A run of entries is what the entry writers wrote, one after the other, unframed and with the
+ * `member` that an entry has in that message. */
+uint64_t sudolog_write_client_hello(uint64_t member, const uint8_t *client_id, size_t client_id_n,
+                                    uint8_t framed, uint8_t *out, size_t room);
+uint64_t sudolog_write_accept(uint64_t member, uint64_t seconds, uint64_t nanos, const uint8_t *run, size_t run_n,
+                              uint8_t expect_iobufs, uint8_t framed, uint8_t *out, size_t room);
+/* A RejectMessage (member 2) or an AlertMessage (member 5): their fields are the same. */
+uint64_t sudolog_write_report(uint64_t member, uint64_t seconds, uint64_t nanos, const uint8_t *reason, size_t reason_n,
+                              const uint8_t *run, size_t run_n, uint8_t framed, uint8_t *out, size_t room);
+uint64_t sudolog_write_exit(uint64_t member, uint64_t seconds, uint64_t nanos, uint64_t exit_value, uint8_t dumped_core,
+                            const uint8_t *signal, size_t signal_n, const uint8_t *error, size_t error_n,
+                            uint8_t framed, uint8_t *out, size_t room);
+uint64_t sudolog_write_restart(uint64_t member, const uint8_t *log_id, size_t log_id_n, uint64_t seconds, uint64_t nanos,
+                               uint8_t framed, uint8_t *out, size_t room);
+uint64_t sudolog_write_io(uint64_t member, uint64_t seconds, uint64_t nanos, const uint8_t *data, size_t data_n,
+                          uint8_t framed, uint8_t *out, size_t room);
+uint64_t sudolog_write_window_size(uint64_t member, uint64_t seconds, uint64_t nanos, uint64_t rows, uint64_t cols,
+                                   uint8_t framed, uint8_t *out, size_t room);
+uint64_t sudolog_write_suspend(uint64_t member, uint64_t seconds, uint64_t nanos, const uint8_t *signal, size_t signal_n,
+                               uint8_t framed, uint8_t *out, size_t room);
+uint64_t sudolog_write_server_hello(uint64_t member, const uint8_t *server_id, size_t server_id_n,
+                                    const uint8_t *redirect, size_t redirect_n, const uint8_t *servers, size_t servers_n,
+                                    const size_t *ends, size_t ends_n, uint8_t subcommands,
+                                    uint8_t framed, uint8_t *out, size_t room);
+/* A TimeSpec: member 0 by itself, with no range; 2 a ServerMessage's commit_point, with its range. */
+uint64_t sudolog_write_time(uint64_t member, uint64_t seconds, uint64_t nanos, uint8_t framed, uint8_t *out, size_t room);
+/* A ServerMessage's log_id (member 3), error (4) or abort (5). */
+uint64_t sudolog_write_note(uint64_t member, const uint8_t *text, size_t text_n, uint8_t framed, uint8_t *out, size_t room);
+uint64_t sudolog_write_string_list(const uint8_t *strings, size_t strings_n, const size_t *ends, size_t ends_n,
+                                   uint8_t framed, uint8_t *out, size_t room);
+uint64_t sudolog_write_number_list(const uint64_t *numbers, size_t numbers_n,
+                                   uint8_t framed, uint8_t *out, size_t room);
+uint64_t sudolog_write_entry_number(uint64_t member, const uint8_t *key, size_t key_n, uint64_t value,
+                                    uint8_t framed, uint8_t *out, size_t room);
+uint64_t sudolog_write_entry_string(uint64_t member, const uint8_t *key, size_t key_n, const uint8_t *value, size_t value_n,
+                                    uint8_t framed, uint8_t *out, size_t room);
+uint64_t sudolog_write_entry_strings(uint64_t member, const uint8_t *key, size_t key_n, const uint8_t *strings, size_t strings_n,
+                                     const size_t *ends, size_t ends_n, uint8_t framed, uint8_t *out, size_t room);
+uint64_t sudolog_write_entry_numbers(uint64_t member, const uint8_t *key, size_t key_n, const uint64_t *numbers, size_t numbers_n,
+                                     uint8_t framed, uint8_t *out, size_t room);
 
 #ifdef __cplusplus
 }
@@ -593,6 +647,87 @@ static inline int sudolog_next_int64(struct sudolog_number_list *left, int64_t *
     left->at = (size_t)sudolog_big_endian(numbers + 8);
     left->end = (size_t)sudolog_big_endian(numbers + 16);
     return 1;
+}
+
+/* ---- beside the writers ----
+ *
+ * What they answer, taken apart, and slices as they are lent. An accept with two entries and then a commit
+ * point, each as a frame:
+ *
+ *   static const size_t ends[] = { 2, 4 };
+ *   uint8_t run[512], accept[1024], point[64];
+ *   size_t run_n = 0, accept_n = 0, point_n = 0;
+ *   int refusal = sudolog_add_written(
+ *       sudolog_write_entry_string(SUDOLOG_ENTRY_OF_ACCEPT, sudolog_text("command"), 7,
+ *                                  sudolog_text("/bin/ls"), 7, 0, run, sizeof run),
+ *       &run_n);
+ *   if (refusal == 0)
+ *       refusal = sudolog_add_written(
+ *           sudolog_write_entry_strings(SUDOLOG_ENTRY_OF_ACCEPT, sudolog_text("runargv"), 7,
+ *                                       sudolog_text("ls-l"), 4, ends, 2, 0, run + run_n, sizeof run - run_n),
+ *           &run_n);
+ *   if (refusal == 0)
+ *       refusal = sudolog_add_written(
+ *           sudolog_write_accept(SUDOLOG_FROM_CLIENT_ACCEPT, 1700000000, 0, run, run_n, true, true,
+ *                                accept, sizeof accept),
+ *           &accept_n);
+ *   if (refusal == 0)
+ *       refusal = sudolog_add_written(
+ *           sudolog_write_time(SUDOLOG_FROM_SERVER_COMMIT_POINT, 1, 0, true, point, sizeof point), &point_n);
+ *
+ * Now accept[0] to accept[accept_n - 1] is what a client sends, point[0] to point[point_n - 1] what a
+ * server sends; or refusal says what stopped it. */
+
+/* The `member` that an entry is written with: info_msgs' field number in the message that gets the run. */
+enum sudolog_entry_of {
+    SUDOLOG_ENTRY_OF_ACCEPT = 2,
+    SUDOLOG_ENTRY_OF_REJECT = 3,
+    SUDOLOG_ENTRY_OF_ALERT = 3
+};
+
+/* How many bytes a writer wrote: 0 where it refused. A TimeSpec, a list or a hello may have 0 as well. */
+static inline size_t sudolog_written_size(uint64_t written)
+{
+    return (size_t)(written & UINT32_MAX);
+}
+
+/* A writer's refusal, 0 for none. */
+static inline int sudolog_written_refusal(uint64_t written)
+{
+    return (int)(written >> 32);
+}
+
+/* The refusal, and on 0 the size added to *used: for writing one thing behind the other. */
+static inline int sudolog_add_written(uint64_t written, size_t *used)
+{
+    *used += sudolog_written_size(written);
+    return sudolog_written_refusal(written);
+}
+
+/* A C string's bytes as they are lent, its length to be given beside them. NULL is lent with length 0. */
+static inline const uint8_t *sudolog_text(const char *text)
+{
+    return sudolog_lend((const uint8_t *)text);
+}
+
+/* The ends of a list of strings, and a list of numbers; NULL where there are none. */
+static inline const size_t *sudolog_lend_ends(const size_t *ends)
+{
+    static const size_t none = 0;
+    return ends != NULL ? ends : &none;
+}
+
+static inline const uint64_t *sudolog_lend_numbers(const int64_t *numbers)
+{
+    static const uint64_t none = 0;
+    return numbers != NULL ? (const uint64_t *)numbers : &none;
+}
+
+/* Where a writer writes to; NULL with room 0. */
+static inline uint8_t *sudolog_lend_room(uint8_t *out)
+{
+    static uint8_t none = 0;
+    return out != NULL ? out : &none;
 }
 
 #endif

@@ -3,7 +3,7 @@
  * 'N passed, M failed'; exit status 1 on a failure.
  *
  * In the order of the header's parts: frames, the marked examples of the scope document, each message's
- * reader, lists, refusals and what they leave untouched.
+ * reader, lists, refusals and what they leave untouched; then the same of writing.
  */
 #include "sudolog.h"
 
@@ -687,6 +687,516 @@ static void numbers_from_bytes(void)
     CHECK(sudolog_int32(UINT64_C(1) << 32) == 0 && sudolog_int32(INT32_MAX) == INT32_MAX);
 }
 
+/* ---- writing ----
+ *
+ * Every write goes to the start of `buffer`, which is filled before it: WRITES checks the bytes, their number
+ * and that the rest is as it was; REFUSES the number and that all of it is. */
+
+static uint8_t buffer[8192];
+
+static void fill_buffer(void)
+{
+    memset(buffer, 0xA5, sizeof buffer);
+}
+
+static bool is_filled(const uint8_t *m, size_t n)
+{
+    size_t i;
+    for (i = 0; i < n; i++)
+        if (m[i] != 0xA5)
+            return false;
+    return true;
+}
+
+static bool is_filled_from(size_t at)
+{
+    return is_filled(buffer + at, sizeof buffer - at);
+}
+
+static bool wrote(uint64_t written, struct slice expected)
+{
+    return written == expected.n && memcmp(buffer, expected.m, expected.n) == 0 && is_filled_from(expected.n);
+}
+
+static bool refused(uint64_t written, int refusal)
+{
+    return sudolog_written_refusal(written) == refusal && sudolog_written_size(written) == 0 && is_filled_from(0);
+}
+
+/* Where a writer writes, and with how much room. */
+#define WIDE buffer, sizeof buffer
+/* A string literal as two arguments: its bytes, without the closing zero, and their number. */
+#define TEXT(BYTES_OF) sudolog_text(BYTES_OF), sizeof(BYTES_OF) - 1
+#define NONE sudolog_lend(NULL), 0
+#define ENDS(ARRAY) ARRAY, sizeof(ARRAY) / sizeof(ARRAY)[0]
+#define NO_ENDS sudolog_lend_ends(NULL), 0
+#define NO_NUMBERS sudolog_lend_numbers(NULL), 0
+
+#define WRITES(EXPECTED, WRITE)                                                                             \
+    do {                                                                                                    \
+        fill_buffer();                                                                                      \
+        CHECK(wrote(WRITE, BYTES(EXPECTED)));                                                               \
+    } while (0)
+#define REFUSES(REFUSAL, WRITE)                                                                             \
+    do {                                                                                                    \
+        fill_buffer();                                                                                      \
+        CHECK(refused(WRITE, REFUSAL));                                                                     \
+    } while (0)
+
+/* An int64's 64 bits. */
+#define MINUS(NUMBER) ((uint64_t)0 - (NUMBER))
+
+/* Two entries for an accept, and the same two for a reject or an alert. */
+#define ACCEPT_RUN "\x12\x06\x0A\x01k\x1A\x01v\x12\x0C\x0A\x04" "argv\x22\x04\x0A\x02ls"
+#define EVENT_RUN "\x1A\x06\x0A\x01k\x1A\x01v\x1A\x0C\x0A\x04" "argv\x22\x04\x0A\x02ls"
+
+static void answers_taken_apart(void)
+{
+    size_t used = 3;
+    CHECK(sudolog_written_size(14) == 14 && sudolog_written_refusal(14) == 0);
+    CHECK(sudolog_written_size(UINT64_C(12) << 32) == 0 && sudolog_written_refusal(UINT64_C(12) << 32) == 12);
+    CHECK(sudolog_add_written(14, &used) == 0 && used == 17);
+    CHECK(sudolog_add_written(UINT64_C(7) << 32, &used) == 7 && used == 17);
+}
+
+static void writes_the_marked_examples(void)
+{
+    WRITES("\x08\x05\x10\x80\xE5\x9A\x77", sudolog_write_time(0, 5, 250000000, 0, WIDE));
+    WRITES("\x00\x00\x00\x0A\x3A\x08\x0A\x02\x08\x01\x12\x02hi", sudolog_write_io(7, 1, 0, TEXT("hi"), 1, WIDE));
+    WRITES("\x00\x00\x00\x04\x12\x02\x08\x01", sudolog_write_time(2, 1, 0, 1, WIDE));
+    WRITES("\x08" MINUS_ONE, sudolog_write_time(0, MINUS(1), 0, 0, WIDE));
+    WRITES("\x08\x80\x80\x80\x80\x80\x80\x80\x80\x80\x01", sudolog_write_time(0, UINT64_C(1) << 63, 0, 0, WIDE));
+    WRITES("\x08\xFF\xFF\xFF\xFF\xFF\xFF\xFF\xFF\x7F", sudolog_write_time(0, INT64_MAX, 0, 0, WIDE));
+}
+
+/* ---- every message in its one written form: full, and with all left out that can be ---- */
+
+static void writes_events(void)
+{
+    WRITES("\x0A\x04\x08\x05\x10\x07" ACCEPT_RUN "\x18\x01",
+           sudolog_write_accept(0, 5, 7, TEXT(ACCEPT_RUN), 1, 0, WIDE));
+    WRITES("\x0A\x0B\x08" MINUS_ONE, sudolog_write_accept(0, MINUS(1), 0, NONE, 0, 0, WIDE));
+    WRITES("\x0A\x02\x0A\x00", sudolog_write_accept(1, 0, 0, NONE, 0, 0, WIDE));
+    WRITES("\x0A\x02\x08\x05\x12\x02no" EVENT_RUN, sudolog_write_report(0, 5, 0, TEXT("no"), TEXT(EVENT_RUN), 0, WIDE));
+    WRITES("\x12\x02\x0A\x00", sudolog_write_report(2, 0, 0, NONE, NONE, 0, WIDE));
+    WRITES("\x0A\x02\x10\x05\x12\x02no" EVENT_RUN, sudolog_write_report(0, 0, 5, TEXT("no"), TEXT(EVENT_RUN), 0, WIDE));
+    WRITES("\x2A\x02\x0A\x00", sudolog_write_report(5, 0, 0, NONE, NONE, 0, WIDE));
+}
+
+static void writes_ends_and_restarts(void)
+{
+    WRITES("\x0A\x04\x08\x05\x10\x07\x10\xFF\x01\x18\x01\x22\x04KILL\x2A\x02no",
+           sudolog_write_exit(0, 5, 7, 255, 1, TEXT("KILL"), TEXT("no"), 0, WIDE));
+    WRITES("\x1A\x02\x0A\x00", sudolog_write_exit(3, 0, 0, 0, 0, NONE, NONE, 0, WIDE));
+    WRITES("\x0A\x02id\x12\x07\x08\x05\x10\x80\xE5\x9A\x77",
+           sudolog_write_restart(0, TEXT("id"), 5, 250000000, 0, WIDE));
+    WRITES("\x22\x05\x0A\x01i\x12\x00", sudolog_write_restart(4, TEXT("i"), 0, 0, 0, WIDE));
+}
+
+static void writes_timed_messages(void)
+{
+    uint8_t expected[4] = { 0, 2, 0x0A, 0 };
+    int member;
+    WRITES("\x0A\x02\x10\x07\x12\x03\x00\xFF\n", sudolog_write_io(0, 0, 7, TEXT("\x00\xFF\n"), 0, WIDE));
+    for (member = SUDOLOG_FROM_CLIENT_TTYIN; member <= SUDOLOG_FROM_CLIENT_STDERR; member++) {
+        expected[0] = (uint8_t)(member * 8 + 2);
+        fill_buffer();
+        CHECK(wrote(sudolog_write_io((uint64_t)member, 0, 0, NONE, 0, WIDE), slice_of((const char *)expected, 4)));
+    }
+    WRITES("\x0A\x02\x08\x01\x10\xFF\xFF\x03\x18\x50", sudolog_write_window_size(0, 1, 0, 65535, 80, 0, WIDE));
+    WRITES("\x5A\x02\x0A\x00", sudolog_write_window_size(11, 0, 0, 0, 0, 0, WIDE));
+    WRITES("\x0A\x02\x08\x01\x12\x04TSTP", sudolog_write_suspend(0, 1, 0, TEXT("TSTP"), 0, WIDE));
+    WRITES("\x62\x05\x0A\x00\x12\x01x", sudolog_write_suspend(12, 0, 0, TEXT("x"), 0, WIDE));
+}
+
+static void writes_hellos_and_notes(void)
+{
+    static const size_t ends[] = { 1, 1, 2 };
+    WRITES("\x0A\x04sudo", sudolog_write_client_hello(0, TEXT("sudo"), 0, WIDE));
+    WRITES("", sudolog_write_client_hello(0, NONE, 0, WIDE));
+    WRITES("\x6A\x00", sudolog_write_client_hello(13, NONE, 0, WIDE));
+    WRITES("\x0A\x01s\x12\x01r\x1A\x01" "a\x1A\x00\x1A\x01" "b\x20\x01",
+           sudolog_write_server_hello(0, TEXT("s"), TEXT("r"), TEXT("ab"), ENDS(ends), 1, 0, WIDE));
+    WRITES("\x0A\x00", sudolog_write_server_hello(1, NONE, NONE, NONE, NO_ENDS, 0, 0, WIDE));
+    WRITES("\x12\x00", sudolog_write_time(2, 0, 0, 0, WIDE));
+    WRITES("\x1A\x02id", sudolog_write_note(3, TEXT("id"), 0, WIDE));
+    WRITES("\x22\x00", sudolog_write_note(4, NONE, 0, WIDE));
+    WRITES("\x2A\x02no", sudolog_write_note(5, TEXT("no"), 0, WIDE));
+}
+
+static void writes_lists(void)
+{
+    static const size_t ends[] = { 0, 2, 2, 3 };
+    static const int64_t numbers[] = { 1, 300, -1, 0 };
+    WRITES("\x0A\x00\x0A\x02" "ab\x0A\x00\x0A\x01" "c", sudolog_write_string_list(TEXT("abc"), ENDS(ends), 0, WIDE));
+    WRITES("\x0A\x00", sudolog_write_string_list(NONE, ends, 1, 0, WIDE));
+    WRITES("", sudolog_write_string_list(NONE, NO_ENDS, 0, WIDE));
+    WRITES("\x0A\x0E\x01\xAC\x02" MINUS_ONE "\x00",
+           sudolog_write_number_list(sudolog_lend_numbers(numbers), 4, 0, WIDE));
+    WRITES("\x0A\x01\x00", sudolog_write_number_list(sudolog_lend_numbers(numbers + 3), 1, 0, WIDE));
+    WRITES("", sudolog_write_number_list(NO_NUMBERS, 0, WIDE));
+    WRITES("\x00\x00\x00\x00", sudolog_write_number_list(NO_NUMBERS, 1, WIDE));
+}
+
+static void writes_entries(void)
+{
+    static const size_t ends[] = { 1, 1 };
+    static const int64_t numbers[] = { 1, 2 };
+    WRITES("\x0A\x03uid\x10" MINUS_ONE, sudolog_write_entry_number(0, TEXT("uid"), MINUS(1), 0, WIDE));
+    WRITES("\x12\x05\x0A\x01k\x10\x00", sudolog_write_entry_number(SUDOLOG_ENTRY_OF_ACCEPT, TEXT("k"), 0, 0, WIDE));
+    WRITES("\x0A\x03tty\x1A\x04pts0", sudolog_write_entry_string(0, TEXT("tty"), TEXT("pts0"), 0, WIDE));
+    WRITES("\x1A\x05\x0A\x01k\x1A\x00", sudolog_write_entry_string(SUDOLOG_ENTRY_OF_REJECT, TEXT("k"), NONE, 0, WIDE));
+    WRITES("\x1A\x0D\x0A\x04" "argv\x22\x05\x0A\x01" "a\x0A\x00",
+           sudolog_write_entry_strings(SUDOLOG_ENTRY_OF_ALERT, TEXT("argv"), TEXT("a"), ENDS(ends), 0, WIDE));
+    WRITES("\x0A\x04gids\x2A\x04\x0A\x02\x01\x02",
+           sudolog_write_entry_numbers(0, TEXT("gids"), sudolog_lend_numbers(numbers), 2, 0, WIDE));
+}
+
+static void writes_empty_lists_in_entries(void)
+{
+    WRITES("\x0A\x01k\x22\x00", sudolog_write_entry_strings(0, TEXT("k"), NONE, NO_ENDS, 0, WIDE));
+    WRITES("\x0A\x01k\x2A\x00", sudolog_write_entry_numbers(0, TEXT("k"), NO_NUMBERS, 0, WIDE));
+    WRITES("\x12\x05\x0A\x01k\x22\x00", sudolog_write_entry_strings(2, TEXT("k"), NONE, NO_ENDS, 0, WIDE));
+    WRITES("\x1A\x05\x0A\x01k\x2A\x00", sudolog_write_entry_numbers(3, TEXT("k"), NO_NUMBERS, 0, WIDE));
+}
+
+/* Any number but 0 is true, also in the flag that asks for a frame. */
+static void flags_are_all_but_zero(void)
+{
+    WRITES("\x00\x00\x00\x06\x0A\x04\x0A\x00\x18\x01", sudolog_write_accept(1, 0, 0, NONE, 2, 0x80, WIDE));
+    WRITES("\x0A\x00\x18\x01", sudolog_write_exit(0, 0, 0, 0, 0xFF, NONE, NONE, 0, WIDE));
+    WRITES("\x20\x01", sudolog_write_server_hello(0, NONE, NONE, NONE, NO_ENDS, 0x40, 0, WIDE));
+}
+
+/* The example in the header's comment. */
+static void writes_an_accept_and_a_commit_point(void)
+{
+    static const size_t ends[] = { 2, 4 };
+    struct slice expected = BYTES("\x00\x00\x00\x35\x0A\x33\x0A\x06\x08\x80\xE2\xCF\xAA\x06"
+                                  "\x12\x12\x0A\x07" "command\x1A\x07/bin/ls"
+                                  "\x12\x13\x0A\x07runargv\x22\x08\x0A\x02ls\x0A\x02-l\x18\x01");
+    uint8_t run[512], accept[1024], point[64];
+    size_t run_n = 0, accept_n = 0, point_n = 0;
+    int refusal = sudolog_add_written(
+        sudolog_write_entry_string(SUDOLOG_ENTRY_OF_ACCEPT, sudolog_text("command"), 7,
+                                   sudolog_text("/bin/ls"), 7, 0, run, sizeof run),
+        &run_n);
+    if (refusal == 0)
+        refusal = sudolog_add_written(
+            sudolog_write_entry_strings(SUDOLOG_ENTRY_OF_ACCEPT, sudolog_text("runargv"), 7,
+                                        sudolog_text("ls-l"), 4, ends, 2, 0, run + run_n, sizeof run - run_n),
+            &run_n);
+    if (refusal == 0)
+        refusal = sudolog_add_written(
+            sudolog_write_accept(SUDOLOG_FROM_CLIENT_ACCEPT, 1700000000, 0, run, run_n, true, true,
+                                 accept, sizeof accept),
+            &accept_n);
+    if (refusal == 0)
+        refusal = sudolog_add_written(
+            sudolog_write_time(SUDOLOG_FROM_SERVER_COMMIT_POINT, 1, 0, true, point, sizeof point), &point_n);
+    CHECK(refusal == 0);
+    CHECK(accept_n == expected.n && memcmp(accept, expected.m, expected.n) == 0);
+    CHECK(point_n == 8 && memcmp(point, "\x00\x00\x00\x04\x12\x02\x08\x01", 8) == 0);
+}
+
+/* ---- what is lent ---- */
+
+/* Longer forms, unknown fields in an entry and a value given twice: taken by the reader, and left as they are. */
+static void run_is_copied_unchanged(void)
+{
+#define ODD "\x92\x00\x86\x00\x0A\x01k\x1A\x01v\x12\x0C\x10\x05\x78\x01\x0A\x81\x80\x00k\x1A\x01w"
+    WRITES("\x0A\x00" ODD "\x18\x01", sudolog_write_accept(0, 0, 0, TEXT(ODD), 1, 0, WIDE));
+    WRITES("\x0A\x1A\x0A\x00" ODD, sudolog_write_accept(1, 0, 0, TEXT(ODD), 0, 0, WIDE));
+#undef ODD
+    WRITES("\x0A\x00\x12\x01x\x9A\x00\x05\x0A\x01k\x10\x00",
+           sudolog_write_report(0, 0, 0, TEXT("x"), TEXT("\x9A\x00\x05\x0A\x01k\x10\x00"), 0, WIDE));
+}
+
+#define ACCEPT_OF(RUN) sudolog_write_accept(1, 0, 0, TEXT(RUN), 0, 1, WIDE)
+#define REJECT_OF(RUN) sudolog_write_report(2, 0, 0, NONE, TEXT(RUN), 1, WIDE)
+#define ALERT_OF(RUN) sudolog_write_report(5, 0, 0, NONE, TEXT(RUN), 1, WIDE)
+
+static void run_is_read_first(void)
+{
+    REFUSES(2, ACCEPT_OF("\x12"));
+    REFUSES(2, ACCEPT_OF("\x12\x06\x0A\x01k\x1A\x01v\x12\x80"));
+    REFUSES(2, REJECT_OF("\x1A\x01\x0A"));
+    REFUSES(2, ACCEPT_OF("\x12\x80\x80\x80\x80\x80\x80\x80\x80\x80\x02"));
+    REFUSES(2, ACCEPT_OF("\x92\x80\x80\x80\x80\x80\x80\x80\x80\x02\x00"));
+    REFUSES(3, ACCEPT_OF("\x12\x05"));
+    REFUSES(3, ALERT_OF("\x1A\x02\x0A\x01k\x1A"));
+    REFUSES(4, ACCEPT_OF("\x00"));
+    REFUSES(4, ACCEPT_OF("\x12\x01\x00"));
+    REFUSES(5, ACCEPT_OF("\x10\x00"));
+    REFUSES(5, REJECT_OF("\x1D"));
+    REFUSES(5, ALERT_OF("\x1A\x02\x08\x00"));
+    REFUSES(7, ACCEPT_OF("\x12\x00"));
+    REFUSES(7, REJECT_OF("\x1A\x03\x0A\x01k"));
+    REFUSES(7, ALERT_OF("\x1A\x02\x10\x01"));
+}
+
+static void run_has_entries_alone(void)
+{
+    REFUSES(4, ACCEPT_OF(EVENT_RUN));
+    REFUSES(4, REJECT_OF(ACCEPT_RUN));
+    REFUSES(4, ALERT_OF(ACCEPT_RUN));
+    REFUSES(4, ACCEPT_OF("\x0A\x00"));     /* the message's own fields as well */
+    REFUSES(4, ACCEPT_OF("\x18\x01"));
+    REFUSES(4, ACCEPT_OF("\x78\x01"));     /* and unknown ones */
+    REFUSES(4, ACCEPT_OF("\x0D"));         /* at its tag: what follows isn't looked at */
+    REFUSES(4, ACCEPT_OF("\x13"));         /* at one tag 4 goes before 5 */
+    REFUSES(4, ACCEPT_OF("\x12\x00\x1A\x00")); /* 2 to 5 of the whole run, then 7 */
+    REFUSES(5, ACCEPT_OF("\x12\x02\x08\x00\x1A\x00")); /* the leftmost place first */
+    REFUSES(4, ACCEPT_OF("\x1A\x00\x12\x02\x08\x00"));
+}
+
+static void ends_of_strings(void)
+{
+    static const size_t falling[] = { 2, 1, 2 }, low[] = { 0, 1 }, high[] = { 1, 3 }, wild[] = { SIZE_MAX, 2 };
+    REFUSES(7, sudolog_write_string_list(TEXT("ab"), ENDS(falling), 0, WIDE));
+    REFUSES(7, sudolog_write_string_list(TEXT("ab"), ENDS(low), 0, WIDE));
+    REFUSES(7, sudolog_write_string_list(TEXT("ab"), ENDS(high), 0, WIDE));
+    REFUSES(7, sudolog_write_string_list(TEXT("ab"), ENDS(wild), 0, WIDE));
+    REFUSES(7, sudolog_write_string_list(TEXT("ab"), NO_ENDS, 0, WIDE));
+    REFUSES(7, sudolog_write_string_list(NONE, high, 1, 0, WIDE));
+    REFUSES(7, sudolog_write_server_hello(1, NONE, NONE, TEXT("ab"), ENDS(falling), 0, 1, WIDE));
+    REFUSES(7, sudolog_write_server_hello(1, NONE, NONE, TEXT("ab"), ENDS(low), 0, 1, WIDE));
+    REFUSES(7, sudolog_write_server_hello(1, NONE, NONE, TEXT("ab"), NO_ENDS, 0, 1, WIDE));
+    REFUSES(7, sudolog_write_entry_strings(2, TEXT("k"), TEXT("ab"), ENDS(falling), 0, WIDE));
+    REFUSES(7, sudolog_write_entry_strings(2, TEXT("k"), TEXT("ab"), ENDS(high), 0, WIDE));
+    REFUSES(7, sudolog_write_entry_strings(2, TEXT("k"), TEXT("ab"), NO_ENDS, 0, WIDE));
+}
+
+static void null_room(void)
+{
+    CHECK(sudolog_write_number_list(NO_NUMBERS, 0, sudolog_lend_room(NULL), 0) == 0);
+    CHECK(sudolog_write_client_hello(0, NONE, 0, sudolog_lend_room(NULL), 0) == 0);
+    CHECK(sudolog_write_time(2, 0, 0, 0, sudolog_lend_room(NULL), 0) == UINT64_C(12) << 32);
+    CHECK(sudolog_lend_room(buffer) == buffer);
+}
+
+/* ---- refusals ---- */
+
+static void members_that_are_none(void)
+{
+    static const uint64_t far = UINT64_C(1) << 61; /* as a tag it would be 2 */
+    REFUSES(7, sudolog_write_client_hello(1, NONE, 0, WIDE));
+    REFUSES(7, sudolog_write_accept(2, 0, 0, NONE, 0, 0, WIDE));
+    REFUSES(7, sudolog_write_accept(far + 1, 0, 0, NONE, 0, 0, WIDE));
+    REFUSES(7, sudolog_write_report(1, 0, 0, NONE, NONE, 0, WIDE));
+    REFUSES(7, sudolog_write_exit(4, 0, 0, 0, 0, NONE, NONE, 0, WIDE));
+    REFUSES(7, sudolog_write_restart(3, TEXT("i"), 0, 0, 0, WIDE));
+    REFUSES(7, sudolog_write_io(5, 0, 0, NONE, 0, WIDE));
+    REFUSES(7, sudolog_write_io(11, 0, 0, NONE, 0, WIDE));
+    REFUSES(7, sudolog_write_io(UINT64_MAX, 0, 0, NONE, 0, WIDE));
+    REFUSES(7, sudolog_write_window_size(12, 0, 0, 0, 0, 0, WIDE));
+    REFUSES(7, sudolog_write_suspend(11, 0, 0, TEXT("x"), 0, WIDE));
+    REFUSES(7, sudolog_write_server_hello(13, NONE, NONE, NONE, NO_ENDS, 0, 0, WIDE));
+    REFUSES(7, sudolog_write_time(1, 0, 0, 0, WIDE));
+    REFUSES(7, sudolog_write_time(3, 0, 0, 0, WIDE));
+    REFUSES(7, sudolog_write_note(2, NONE, 0, WIDE));
+    REFUSES(7, sudolog_write_note(6, NONE, 0, WIDE));
+    REFUSES(7, sudolog_write_entry_number(1, TEXT("k"), 0, 0, WIDE));
+    REFUSES(7, sudolog_write_entry_string(4, TEXT("k"), NONE, 0, WIDE));
+    REFUSES(7, sudolog_write_entry_strings(1, TEXT("k"), NONE, NO_ENDS, 0, WIDE));
+    REFUSES(7, sudolog_write_entry_numbers(far + 2, TEXT("k"), NO_NUMBERS, 0, WIDE));
+}
+
+#define MOST_SECONDS UINT64_C(4294967295)
+#define MOST_NANOS 999999999
+
+/* A message with a span in it, written with WRITE(seconds, nanoseconds). */
+#define SPANS(WRITE)                                                                                        \
+    do {                                                                                                    \
+        CHECK(sudolog_written_refusal(WRITE(MOST_SECONDS, MOST_NANOS)) == 0);                               \
+        REFUSES(7, WRITE(MOST_SECONDS + 1, 0));                                                             \
+        REFUSES(7, WRITE(MINUS(1), 0));                                                                     \
+        REFUSES(7, WRITE(0, MOST_NANOS + 1));                                                               \
+        REFUSES(7, WRITE(0, MINUS(1)));                                                                     \
+        REFUSES(7, WRITE(0, UINT64_C(1) << 32));                                                            \
+    } while (0)
+/* The same with a moment: any seconds. */
+#define MOMENTS(WRITE)                                                                                      \
+    do {                                                                                                    \
+        CHECK(sudolog_written_refusal(WRITE(MINUS(1), MOST_NANOS)) == 0);                                   \
+        CHECK(sudolog_written_refusal(WRITE(INT64_MAX, 0)) == 0);                                           \
+        REFUSES(7, WRITE(0, MOST_NANOS + 1));                                                               \
+        REFUSES(7, WRITE(0, MINUS(1)));                                                                     \
+        REFUSES(7, WRITE(0, UINT64_C(1) << 32));                                                            \
+    } while (0)
+
+static void written_ranges_of_times(void)
+{
+#define ACCEPT_AT(S, NS) sudolog_write_accept(1, S, NS, NONE, 0, 0, WIDE)
+#define REJECT_AT(S, NS) sudolog_write_report(0, S, NS, NONE, NONE, 0, WIDE)
+#define ALERT_AT(S, NS) sudolog_write_report(5, S, NS, NONE, NONE, 0, WIDE)
+#define EXIT_AT(S, NS) sudolog_write_exit(3, S, NS, 0, 0, NONE, NONE, 0, WIDE)
+#define RESTART_AT(S, NS) sudolog_write_restart(0, TEXT("i"), S, NS, 0, WIDE)
+#define IO_AT(S, NS) sudolog_write_io(6, S, NS, NONE, 0, WIDE)
+#define WINDOW_AT(S, NS) sudolog_write_window_size(0, S, NS, 0, 0, 0, WIDE)
+#define SUSPEND_AT(S, NS) sudolog_write_suspend(12, S, NS, TEXT("x"), 0, WIDE)
+#define COMMIT_AT(S, NS) sudolog_write_time(2, S, NS, 0, WIDE)
+    MOMENTS(ACCEPT_AT);
+    MOMENTS(REJECT_AT);
+    MOMENTS(ALERT_AT);
+    SPANS(EXIT_AT);
+    SPANS(RESTART_AT);
+    SPANS(IO_AT);
+    SPANS(WINDOW_AT);
+    SPANS(SUSPEND_AT);
+    SPANS(COMMIT_AT);
+    /* a TimeSpec by itself has no range */
+    WRITES("\x08" MINUS_ONE "\x10" MINUS_ONE, sudolog_write_time(0, MINUS(1), MINUS(1), 0, WIDE));
+    WRITES("\x10\x80\x94\xEB\xDC\x03", sudolog_write_time(0, 0, MOST_NANOS + 1, 0, WIDE));
+}
+
+static void written_ranges_of_the_rest(void)
+{
+    static const uint8_t x[4096] = { 0 };
+    REFUSES(7, sudolog_write_exit(3, 0, 0, 256, 0, NONE, NONE, 0, WIDE));
+    REFUSES(7, sudolog_write_exit(3, 0, 0, MINUS(1), 0, NONE, NONE, 0, WIDE));
+    REFUSES(7, sudolog_write_exit(3, 0, 0, UINT64_C(1) << 32, 0, NONE, NONE, 0, WIDE));
+    CHECK(sudolog_write_exit(0, 0, 0, 0, 0, x, 127, NONE, 0, WIDE) == 2 + 2 + 127);
+    REFUSES(7, sudolog_write_exit(0, 0, 0, 0, 0, x, 128, NONE, 0, WIDE));
+    CHECK(sudolog_write_exit(0, 0, 0, 0, 0, NONE, x, 128, 0, WIDE) == 2 + 3 + 128);
+    REFUSES(7, sudolog_write_window_size(11, 0, 0, 65536, 0, 0, WIDE));
+    REFUSES(7, sudolog_write_window_size(11, 0, 0, 0, 65536, 0, WIDE));
+    REFUSES(7, sudolog_write_window_size(11, 0, 0, UINT64_C(1) << 32, 0, 0, WIDE));
+    REFUSES(7, sudolog_write_window_size(11, 0, 0, 0, MINUS(1), 0, WIDE));
+    REFUSES(7, sudolog_write_suspend(12, 0, 0, NONE, 0, WIDE));
+    CHECK(sudolog_write_suspend(0, 0, 0, x, 127, 0, WIDE) == 2 + 2 + 127);
+    REFUSES(7, sudolog_write_suspend(0, 0, 0, x, 128, 0, WIDE));
+    REFUSES(7, sudolog_write_restart(4, NONE, 0, 0, 0, WIDE));
+    CHECK(sudolog_write_restart(0, x, 4095, 0, 0, 0, WIDE) == 3 + 4095 + 2);
+    REFUSES(7, sudolog_write_restart(0, x, 4096, 0, 0, 0, WIDE));
+    REFUSES(7, sudolog_write_entry_number(0, NONE, 1, 0, WIDE));
+    REFUSES(7, sudolog_write_entry_string(2, NONE, TEXT("v"), 0, WIDE));
+    REFUSES(7, sudolog_write_entry_strings(3, NONE, NONE, NO_ENDS, 0, WIDE));
+    REFUSES(7, sudolog_write_entry_numbers(2, NONE, NO_NUMBERS, 0, WIDE));
+}
+
+/* Written with exactly the room that it needs, and refused with 12 for one byte less. WRITE speaks of `room`. */
+#define FITS(WRITE)                                                                                         \
+    do {                                                                                                    \
+        size_t room = sizeof buffer, size;                                                                  \
+        size = sudolog_written_size(WRITE);                                                                 \
+        CHECK(size > 0);                                                                                    \
+        room = size;                                                                                        \
+        fill_buffer();                                                                                      \
+        CHECK((WRITE) == size && is_filled_from(size));                                                     \
+        room = size - 1;                                                                                    \
+        REFUSES(12, WRITE);                                                                                 \
+        room = 0;                                                                                           \
+        REFUSES(12, WRITE);                                                                                 \
+    } while (0)
+
+static void exact_room(void)
+{
+    static const size_t ends[] = { 1, 2 };
+    static const int64_t numbers[] = { 300, 1 };
+    uint8_t framed;
+    for (framed = 0; framed < 2; framed++) {
+        FITS(sudolog_write_client_hello(13, TEXT("sudo"), framed, buffer, room));
+        FITS(sudolog_write_accept(1, 5, 7, TEXT(ACCEPT_RUN), 1, framed, buffer, room));
+        FITS(sudolog_write_report(2, 5, 7, TEXT("no"), TEXT(EVENT_RUN), framed, buffer, room));
+        FITS(sudolog_write_report(0, 5, 7, TEXT("no"), NONE, framed, buffer, room));
+        FITS(sudolog_write_exit(3, 5, 7, 1, 1, TEXT("KILL"), TEXT("no"), framed, buffer, room));
+        FITS(sudolog_write_restart(0, TEXT("id"), 5, 7, framed, buffer, room));
+        FITS(sudolog_write_io(9, 5, 7, TEXT("data"), framed, buffer, room));
+        FITS(sudolog_write_window_size(11, 5, 7, 24, 80, framed, buffer, room));
+        FITS(sudolog_write_suspend(12, 5, 7, TEXT("TSTP"), framed, buffer, room));
+        FITS(sudolog_write_server_hello(1, TEXT("s"), TEXT("r"), TEXT("ab"), ENDS(ends), 1, framed, buffer, room));
+        FITS(sudolog_write_time(2, 5, 7, framed, buffer, room));
+        FITS(sudolog_write_note(3, TEXT("id"), framed, buffer, room));
+        FITS(sudolog_write_string_list(TEXT("ab"), ENDS(ends), framed, buffer, room));
+        FITS(sudolog_write_number_list(sudolog_lend_numbers(numbers), 2, framed, buffer, room));
+        FITS(sudolog_write_entry_number(2, TEXT("k"), 300, framed, buffer, room));
+        FITS(sudolog_write_entry_string(3, TEXT("k"), TEXT("v"), framed, buffer, room));
+        FITS(sudolog_write_entry_strings(2, TEXT("k"), TEXT("ab"), ENDS(ends), framed, buffer, room));
+        FITS(sudolog_write_entry_numbers(3, TEXT("k"), sudolog_lend_numbers(numbers), 2, framed, buffer, room));
+    }
+}
+
+/* Messages of 291 and 70,000 bytes: each of the frame's four bytes counts. */
+static void length_of_a_frame(void)
+{
+    uint8_t *in = (uint8_t *)calloc(1, 70000), *out = (uint8_t *)calloc(1, 4 + 70000);
+    CHECK(in != NULL && out != NULL);
+    if (in != NULL && out != NULL) {
+        CHECK(sudolog_write_note(3, in, 291 - 3, 1, out, 4 + 291) == 4 + 291);
+        CHECK(memcmp(out, "\x00\x00\x01\x23\x1A\xA0\x02", 7) == 0);
+        CHECK(sudolog_write_note(3, in, 70000 - 4, 1, out, 4 + 70000) == 4 + 70000);
+        CHECK(memcmp(out, "\x00\x01\x11\x70\x1A\xEC\xA2\x04", 8) == 0);
+    }
+    free(in);
+    free(out);
+}
+
+/* The longest message, and one byte more: 1, whatever the room. */
+static void longest_messages(void)
+{
+    uint8_t *in = (uint8_t *)calloc(1, LARGEST), *out = (uint8_t *)calloc(1, 4 + LARGEST + 1);
+    CHECK(in != NULL && out != NULL);
+    if (in != NULL && out != NULL) {
+        CHECK(sudolog_write_io(7, 0, 0, in, LARGEST - 10, 0, out, LARGEST) == LARGEST);
+        CHECK(memcmp(out, "\x3A\xFC\xFF\x7F\x0A\x00\x12\xF6\xFF\x7F", 10) == 0);
+        CHECK(sudolog_write_io(7, 0, 0, in, LARGEST - 10, 1, out, 4 + LARGEST) == 4 + LARGEST);
+        CHECK(memcmp(out, "\x00\x20\x00\x00\x3A\xFC\xFF\x7F", 8) == 0);
+        CHECK(cuts(out, 4 + LARGEST, SUDOLOG_FRAME_WHOLE, LARGEST));
+        memset(out, 0xA5, 4 + LARGEST + 1);
+        CHECK(sudolog_write_io(7, 0, 0, in, LARGEST - 10, 1, out, 4 + LARGEST - 1) == UINT64_C(12) << 32);
+        CHECK(sudolog_write_io(7, 0, 0, in, LARGEST - 9, 0, out, 4 + LARGEST + 1) == UINT64_C(1) << 32);
+        CHECK(is_filled(out, 4 + LARGEST + 1));
+        REFUSES(1, sudolog_write_note(4, in, LARGEST - 3, 0, WIDE));
+        REFUSES(12, sudolog_write_note(4, in, LARGEST - 4, 0, WIDE));
+        /* an entry that is a longest message, and then an accept around it */
+        CHECK(sudolog_write_entry_string(2, TEXT("k"), in, LARGEST - 11, 0, out, LARGEST) == LARGEST);
+        REFUSES(1, sudolog_write_accept(0, 0, 0, out, LARGEST, 0, 0, WIDE));
+        REFUSES(4, sudolog_write_report(0, 0, 0, NONE, out, LARGEST, 0, WIDE));
+    }
+    free(in);
+    free(out);
+}
+
+/* Document 01's order: the run's 2 to 5, its 7; 7; 1; 12. Each call has all that is named after its number. */
+static void refusals_in_order(void)
+{
+    static const size_t falling[] = { 1, 0 };
+    uint8_t *in = (uint8_t *)calloc(1, LARGEST);
+    CHECK(in != NULL);
+    if (in == NULL)
+        return;
+    REFUSES(2, sudolog_write_accept(9, 0, MINUS(1), TEXT("\x12\x00\x12"), 0, 1, buffer, 0));
+    REFUSES(3, sudolog_write_report(9, 0, MINUS(1), in, LARGEST, TEXT("\x1A\x00\x1A\x01"), 1, buffer, 0));
+    REFUSES(4, sudolog_write_report(9, 0, MINUS(1), in, LARGEST, TEXT("\x1A\x00\x12\x00"), 1, buffer, 0));
+    REFUSES(5, sudolog_write_report(9, 0, MINUS(1), in, LARGEST, TEXT("\x1A\x00\x18\x00"), 1, buffer, 0));
+    REFUSES(7, sudolog_write_report(5, 0, 0, in, LARGEST, TEXT("\x1A\x00"), 1, buffer, 0));
+    REFUSES(7, sudolog_write_report(2, 0, MINUS(1), in, LARGEST, NONE, 1, buffer, 0));
+    REFUSES(7, sudolog_write_io(1, 0, 0, in, LARGEST, 1, buffer, 0));
+    REFUSES(7, sudolog_write_server_hello(1, in, LARGEST, NONE, TEXT("a"), ENDS(falling), 0, 1, buffer, 0));
+    REFUSES(1, sudolog_write_report(2, 0, 0, in, LARGEST, NONE, 1, buffer, 0));
+    REFUSES(1, sudolog_write_io(7, 0, 0, in, LARGEST, 1, buffer, 0));
+    REFUSES(12, sudolog_write_io(7, 0, 0, in, 10, 1, buffer, 0));
+    free(in);
+}
+
+/* ---- what is written is read again ---- */
+
+static void written_accept_reads_back(void)
+{
+    struct slice in = BYTES(ACCEPT_RUN);
+    struct sudolog_client_message message;
+    struct sudolog_accept accept;
+    size_t size = sudolog_written_size(sudolog_write_accept(1, MINUS(5), 7, in.m, in.n, 1, 1, WIDE));
+    CHECK(cuts(buffer, size, SUDOLOG_FRAME_WHOLE, size - 4));
+    in = slice_of((const char *)buffer + 4, size - 4);
+    CHECK(sudolog_read_client_message(in.m, in.n, &message) == 0 && message.member == SUDOLOG_FROM_CLIENT_ACCEPT);
+    in = part(in, message.content);
+    sudolog_get_accept(in.m, in.n, &accept);
+    CHECK(is_time(accept.submit_time, -5, 7) && accept.expect_iobufs == true);
+    check_two_entries(in, accept.entries);
+}
+
 int main(void)
 {
     short_frames();
@@ -724,6 +1234,30 @@ int main(void)
     room_too_small();
     fields_that_are_absent();
     numbers_from_bytes();
+    answers_taken_apart();
+    writes_the_marked_examples();
+    writes_events();
+    writes_ends_and_restarts();
+    writes_timed_messages();
+    writes_hellos_and_notes();
+    writes_lists();
+    writes_entries();
+    writes_empty_lists_in_entries();
+    flags_are_all_but_zero();
+    writes_an_accept_and_a_commit_point();
+    run_is_copied_unchanged();
+    run_is_read_first();
+    run_has_entries_alone();
+    ends_of_strings();
+    null_room();
+    members_that_are_none();
+    written_ranges_of_times();
+    written_ranges_of_the_rest();
+    exact_room();
+    length_of_a_frame();
+    longest_messages();
+    refusals_in_order();
+    written_accept_reads_back();
     printf("%d passed, %d failed\n", passed, failed);
     return failed == 0 ? 0 : 1;
 }

@@ -9,6 +9,13 @@
  *   decode NAME HEX   sudolog_decode_..: NAME as in sudo_logsrv.proto
  *   read NAME HEX     sudolog_read_..
  *   scan HEX          sudolog_scan_client: answered as decode ClientMessage
+ *
+ *   write NAME MEMBER FRAMED ROOM ARGUMENT...
+ *                     sudolog_write_NAME, its arguments in the header's order: a slice is one word of hex, a
+ *                     number is decimal and may have a sign, a list is numbers with a comma between two;
+ *                     the empty slice and the empty list are the empty word. Answered by {"written":HEX};
+ *                     it is asked twice, over different bytes, and "touched":true is added where a byte
+ *                     beyond those written was changed, "differs":true where the two answers do.
  */
 #define _DEFAULT_SOURCE
 #include "sudolog.h"
@@ -339,6 +346,14 @@ struct bytes {
     size_t n;
 };
 
+static void *memory(size_t n)
+{
+    void *m = malloc(n);
+    if (m == NULL)
+        exit(2);
+    return m;
+}
+
 static void end_answer(int refusal)
 {
     if (refusal != 0)
@@ -405,27 +420,251 @@ static struct bytes from_hex(const char *hex)
     size_t i;
     if (out.n == 0)
         return out;
-    out.m = malloc(out.n);
-    if (out.m == NULL)
-        exit(2);
+    out.m = memory(out.n);
     for (i = 0; i < out.n; i++)
         out.m[i] = (uint8_t)(digit(hex[2 * i]) << 4 | digit(hex[2 * i + 1]));
     return out;
+}
+
+/* ---- requests to write ---- */
+
+struct list {
+    int64_t *numbers; /* NULL where n is 0, as ends */
+    size_t *ends;     /* the same numbers */
+    size_t n;
+};
+
+/* What a writer is given. The arguments stand in the order of the header's parameters, by their kind. */
+struct given {
+    uint64_t member;
+    uint8_t framed;
+    uint64_t number[4];
+    struct bytes slice[3];
+    struct list list;
+    uint8_t *out;
+    size_t room;
+};
+
+#define PLACE g->framed, g->out, g->room
+#define NUMBER(I) g->number[I]
+#define FLAG(I) (uint8_t)g->number[I]
+#define SLICE(I) sudolog_lend(g->slice[I].m), g->slice[I].n
+#define ENDS sudolog_lend_ends(g->list.ends), g->list.n
+#define NUMBERS sudolog_lend_numbers(g->list.numbers), g->list.n
+#define WRITER(NAME, ...)                                                                                   \
+    static uint64_t write_##NAME(const struct given *g)                                                     \
+    {                                                                                                       \
+        return sudolog_write_##NAME(g->member, __VA_ARGS__, PLACE);                                         \
+    }
+
+WRITER(client_hello, SLICE(0))
+WRITER(accept, NUMBER(0), NUMBER(1), SLICE(0), FLAG(2))
+WRITER(report, NUMBER(0), NUMBER(1), SLICE(0), SLICE(1))
+WRITER(exit, NUMBER(0), NUMBER(1), NUMBER(2), FLAG(3), SLICE(0), SLICE(1))
+WRITER(restart, SLICE(0), NUMBER(0), NUMBER(1))
+WRITER(io, NUMBER(0), NUMBER(1), SLICE(0))
+WRITER(window_size, NUMBER(0), NUMBER(1), NUMBER(2), NUMBER(3))
+WRITER(suspend, NUMBER(0), NUMBER(1), SLICE(0))
+WRITER(server_hello, SLICE(0), SLICE(1), SLICE(2), ENDS, FLAG(0))
+WRITER(time, NUMBER(0), NUMBER(1))
+WRITER(note, SLICE(0))
+
+/* These two are no member of any message. */
+static uint64_t write_string_list(const struct given *g)
+{
+    return sudolog_write_string_list(SLICE(0), ENDS, PLACE);
+}
+
+static uint64_t write_number_list(const struct given *g)
+{
+    return sudolog_write_number_list(NUMBERS, PLACE);
+}
+
+WRITER(entry_number, SLICE(0), NUMBER(0))
+WRITER(entry_string, SLICE(0), SLICE(1))
+WRITER(entry_strings, SLICE(0), SLICE(1), ENDS)
+WRITER(entry_numbers, SLICE(0), NUMBERS)
+
+/* A writer's arguments in their order: n a number or flag, s a slice, l a list. */
+static const struct {
+    const char *name;
+    const char *takes;
+    uint64_t (*write)(const struct given *g);
+} writers[] = {
+    { "client_hello", "s", write_client_hello },
+    { "accept", "nnsn", write_accept },
+    { "reject", "nnss", write_report },
+    { "alert", "nnss", write_report },
+    { "exit", "nnnnss", write_exit },
+    { "restart", "snn", write_restart },
+    { "io", "nns", write_io },
+    { "window_size", "nnnn", write_window_size },
+    { "suspend", "nns", write_suspend },
+    { "server_hello", "sssln", write_server_hello },
+    { "time", "nn", write_time },
+    { "note", "s", write_note },
+    { "string_list", "sl", write_string_list },
+    { "number_list", "l", write_number_list },
+    { "entry_number", "sn", write_entry_number },
+    { "entry_string", "ss", write_entry_string },
+    { "entry_strings", "ssl", write_entry_strings },
+    { "entry_numbers", "sl", write_entry_numbers },
+};
+
+/* -1 is the 64 bits of -1. */
+static uint64_t from_decimal(const char *word)
+{
+    return word[0] == '-' ? -strtoull(word + 1, NULL, 10) : strtoull(word, NULL, 10);
+}
+
+static struct list from_list(char *word)
+{
+    struct list out = { NULL, NULL, 0 };
+    const char *c;
+    size_t i;
+    if (word[0] == '\0')
+        return out;
+    for (c = word, out.n = 1; *c != '\0'; c++)
+        out.n += *c == ',';
+    out.numbers = memory(out.n * sizeof *out.numbers);
+    out.ends = memory(out.n * sizeof *out.ends);
+    for (i = 0; i < out.n; i++) {
+        uint64_t number = from_decimal(strsep(&word, ","));
+        out.numbers[i] = sudolog_int64(number);
+        out.ends[i] = (size_t)number;
+    }
+    return out;
+}
+
+/* The arguments in `words`; false where there are more or fewer than the writer takes. */
+static bool from_words(struct given *g, const char *takes, char *words)
+{
+    size_t numbers = 0, slices = 0;
+    for (; *takes != '\0'; takes++) {
+        char *word = strsep(&words, " ");
+        if (word == NULL)
+            return false;
+        switch (*takes) {
+        case 'n': g->number[numbers++] = from_decimal(word); break;
+        case 's': g->slice[slices++] = from_hex(word); break;
+        case 'l': g->list = from_list(word); break;
+        }
+    }
+    return words == NULL;
+}
+
+static void free_given(struct given *g)
+{
+    size_t i;
+    for (i = 0; i < sizeof g->slice / sizeof g->slice[0]; i++)
+        free(g->slice[i].m);
+    free(g->list.numbers);
+    free(g->list.ends);
+}
+
+/* Bytes before and behind the room, in which nothing may be written either. */
+enum { FENCE = 32 };
+
+/* What one call answered, and the buffer that it was lent, fences included. */
+struct outcome {
+    uint64_t written;
+    uint8_t *buffer;
+    bool touched; /* a byte was changed beyond the size that it answered */
+};
+
+static bool is_filled(const uint8_t *m, size_t n, uint8_t fill)
+{
+    size_t i;
+    for (i = 0; i < n; i++)
+        if (m[i] != fill)
+            return false;
+    return true;
+}
+
+static struct outcome written_over(uint8_t fill, uint64_t (*write)(const struct given *), struct given *g)
+{
+    size_t n = FENCE + g->room + FENCE, end;
+    struct outcome out;
+    out.buffer = memory(n);
+    memset(out.buffer, fill, n);
+    g->out = out.buffer + FENCE;
+    out.written = write(g);
+    end = FENCE + sudolog_written_size(out.written);
+    out.touched = !is_filled(out.buffer, FENCE, fill) || end > n || !is_filled(out.buffer + end, n - end, fill);
+    return out;
+}
+
+static void put_written(const uint8_t *room_start, size_t room, uint64_t written)
+{
+    struct sudolog_span all = { 0, sudolog_written_size(written) };
+    if (sudolog_written_refusal(written) == 0 && all.length <= room) {
+        put_name("{", "written");
+        put_bytes(room_start, all);
+        return;
+    }
+    printf("{\"refused\":%d", sudolog_written_refusal(written));
+    if (all.length != 0) /* a refusal with a size, or a size beyond the room */
+        printf(",\"size\":%zu", all.length);
+}
+
+/* Writes twice, over two fills that differ in every bit, so that no byte is written unseen. */
+static void answer_written(uint64_t (*write)(const struct given *), struct given *g)
+{
+    struct outcome one = written_over(0xA5, write, g), other = written_over(0x5A, write, g);
+    size_t size = sudolog_written_size(one.written);
+    put_written(one.buffer + FENCE, g->room, one.written);
+    if (one.touched || other.touched)
+        fputs(",\"touched\":true", stdout);
+    if (one.written != other.written || (size <= g->room && memcmp(one.buffer + FENCE, other.buffer + FENCE, size) != 0))
+        fputs(",\"differs\":true", stdout);
+    free(one.buffer);
+    free(other.buffer);
+    end_answer(0);
+}
+
+static bool answer_write(char *words)
+{
+    struct given g;
+    const char *name = strsep(&words, " "), *member = strsep(&words, " ");
+    const char *framed = strsep(&words, " "), *room = strsep(&words, " ");
+    bool known = false;
+    size_t i;
+    if (room == NULL)
+        return false;
+    memset(&g, 0, sizeof g);
+    g.member = from_decimal(member);
+    g.framed = (uint8_t)from_decimal(framed);
+    g.room = (size_t)from_decimal(room);
+    for (i = 0; i < sizeof writers / sizeof writers[0]; i++)
+        if (strcmp(name, writers[i].name) == 0 && from_words(&g, writers[i].takes, words)) {
+            answer_written(writers[i].write, &g);
+            known = true;
+        }
+    free_given(&g);
+    return known;
+}
+
+static bool answer_slice(const char *ask, const char *name, struct bytes in)
+{
+    if (strcmp(ask, "decode") == 0 || strcmp(ask, "read") == 0)
+        return answer_message(name, strcmp(ask, "read") == 0, in);
+    if (strcmp(ask, "frame") == 0)
+        return answer_frame(in);
+    return strcmp(ask, "scan") == 0 && answer_scan(in);
 }
 
 static bool answer_line(char *line)
 {
     const char *ask = strsep(&line, " ");
     bool named = strcmp(ask, "decode") == 0 || strcmp(ask, "read") == 0;
-    const char *name = named ? strsep(&line, " ") : "";
-    struct bytes in = from_hex(line != NULL ? line : "");
-    bool known = false;
-    if (named)
-        known = answer_message(name, strcmp(ask, "read") == 0, in);
-    else if (strcmp(ask, "frame") == 0)
-        known = answer_frame(in);
-    else if (strcmp(ask, "scan") == 0)
-        known = answer_scan(in);
+    const char *name;
+    struct bytes in;
+    bool known;
+    if (strcmp(ask, "write") == 0)
+        return answer_write(line);
+    name = named ? strsep(&line, " ") : "";
+    in = from_hex(line != NULL ? line : "");
+    known = answer_slice(ask, name, in);
     free(in.m);
     return known;
 }

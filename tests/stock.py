@@ -73,8 +73,48 @@ def shaped(message):
     return shape
 
 
+def native(field, value):
+    """A value in the shape of the vector files as the field takes it; TYPE_MESSAGE apart."""
+    if field.type == FieldDescriptor.TYPE_STRING:
+        return bytes.fromhex(value).decode()
+    return bytes.fromhex(value) if field.type == FieldDescriptor.TYPE_BYTES else value
+
+
+def set_field(message, field, value):
+    held = getattr(message, field.name)
+    repeated = field.label == FieldDescriptor.LABEL_REPEATED
+    if field.type == FieldDescriptor.TYPE_MESSAGE and repeated:
+        for element in value:
+            filled(held.add(), element)
+    elif field.type == FieldDescriptor.TYPE_MESSAGE:
+        held.SetInParent()  # written even where it is empty: each TimeSpec field, and the member of a oneof
+        filled(held, value)
+    elif repeated:
+        held.extend(native(field, element) for element in value)
+    else:
+        setattr(message, field.name, native(field, value))
+
+
+def fields_of(kind, value):
+    """The fields of a value in the shape of the vector files: (field, its part)."""
+    if kind.name == "TimeSpec":
+        return zip(kind.fields, value)
+    if kind.name in LISTS:
+        return [(kind.fields_by_name[LISTS[kind.name]], value)]
+    named = {kind.fields_by_name.get(name): part for name, part in value.items()}
+    number, held = named.pop(None, (0, None))  # the oneof's name is no field's
+    return list(named.items()) + ([(kind.fields_by_number[number], held)] if number else [])
+
+
+def filled(message, value):
+    """The empty message with a value in the shape of the vector files: shaped() gives it back."""
+    for field, part in fields_of(message.DESCRIPTOR, value):
+        set_field(message, field, part)
+    return message
+
+
 class Stock:
-    """The stock library's readers, with strings as the protocol has them and as bytes."""
+    """The stock library's readers and writers, with strings as the protocol has them and as bytes."""
 
     def __init__(self):
         file = described()
@@ -107,3 +147,11 @@ class Stock:
         """What the library writes for a message that it takes; None where it refuses it."""
         message = self.parsed(name, data)
         return None if message is None else message.SerializeToString()
+
+    def written(self, name, value):
+        """What the library writes for a value in the shape of the vector files, each TimeSpec field of its
+        messages present. Strings are bytes where one of them is no UTF-8."""
+        try:
+            return filled(self.classes[name](), value).SerializeToString()
+        except UnicodeDecodeError:
+            return filled(self.bytes_classes[name](), value).SerializeToString()

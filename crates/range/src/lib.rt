@@ -87,7 +87,7 @@ fn entry_fits(s: &[u8]) -> bool
 }
 
 // The entries of a message: its fields of this number.
-fn entries_fit(s: &[u8], number: u64) -> bool
+pub fn entries_fit(s: &[u8], number: u64) -> bool
     ensures { λ r. ⌜ r ≡ entriesFit (m.entries number (items (now (s .entry)))) ⌝ }
 {
     let mut at: usize = 0;

@@ -1,5 +1,5 @@
 -- What the functions for C answer: the paper's numbers for each case, and numbers as bytes.
-use Prim.Native.Nat.{ℕ, _-_}
+use Prim.Native.Nat.{ℕ, _+_, _-_, _*_, _%_}
 use mathlib.Core.List.{List, [], _∷_}
 use mathlib.Core.Path.{_≡_}
 use lib.ListN.{length}
@@ -11,6 +11,7 @@ use Rattle.encoding.specs.declared.fields.Found.{Found}
 use Rattle.encoding.specs.declared.fields.Found.the-variants as found
 use Rattle.numbers.specs.Eight.{laid}
 use Rattle.elements.specs.Elements.{numbersAt}
+use Rattle.writer.specs.declared.outcome.Wrote.{Wrote}
 use Rattle.walk.specs.declared.client.ClientRead.{ClientRead}
 use Rattle.walk.specs.declared.client.ClientRead.the-variants as client
 
@@ -73,3 +74,9 @@ pub record Laid (s : List ℕ) (at end : ℕ) (out left : List ℕ) : Type 0 whe
 pub record NextBuffer (s : List ℕ) (at end : ℕ) (out : List ℕ) (r : ℕ) (left : List ℕ) : Type 0 where
   pub one : r ≡ 1 → Laid s at end out left
   pub other : (r ≡ 1 → ⊥) → left ≡ out
+
+-- ---- writers
+
+-- a writer's answer as one number: the refusal above 32 bits of the size, which no message exceeds
+unfoldable pub answerOf : Wrote → ℕ
+answerOf w = w .refusal * 4294967296 + w .size % 4294967296

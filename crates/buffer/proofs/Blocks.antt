@@ -1,0 +1,80 @@
+-- Laws of copies by blocks, which may lie over bytes already copied. Assumes nothing.
+use mathlib.Core.Path.{_≡_, refl, sym, ap, _∙_}
+use Prim.Native.Nat.{ℕ, zero, suc, _+_, _-_, _≤_, _<_}
+use native.Mathlib.Nat.{add-assoc}
+use native.Mathlib.Omega.{arith}
+use mathlib.Core.List.{List, _++_}
+use mathlib.Core.Bool.{true, false}
+use mathlib.Core.Logic.{⊎-elim}
+use lib.ListN.{length, take, drop, set, getD, List·getD-append}
+use lib.Seq.{length-take-le, getD-take, getD-append-add, paste, paste-suc, set-getD, take-length, length-paste-head}
+use Rattle.laws.specs.Base.{splice}
+use Rattle.laws.proofs.Order.{lt-or-le}
+use borrow.Author.Tests.{le-leb, lt-leb}
+use Rattle.buffer.specs.Copy.{fits, copied, stored}
+
+-- a whole copy is a splice
+pub paste-splice : (d : List ℕ) (at : ℕ) (s : List ℕ) (n : ℕ) → n ≡ length s → paste d at s n ≡ splice d at s
+unfolding splice
+paste-splice d at s n h =
+    ap (λ (k : ℕ). take at d ++ take k s ++ drop (at + k) d) h
+    ∙ ap (λ (l : List ℕ). take at d ++ l ++ drop (at + length s) d) (take-length s)
+
+-- of m bytes that stand, the i-th
+under : (d : List ℕ) (at : ℕ) (s : List ℕ) (m i : ℕ) → i < m → m ≤ length s → at ≤ length d → getD (paste d at s m) (at + i) 0 ≡ getD s i 0
+under d at s m i h l k =
+    let e : length (take at d ++ take m s) ≡ at + m = length-paste-head d at s m k l in
+    let t : length (take at d) ≡ at = length-take-le at d k in
+    List·getD-append (take at d ++ take m s) (drop (at + m) d) 0 (at + i) (omega arith)
+    ∙ ap (λ (n : ℕ). getD (take at d ++ take m s) (n + i) 0) (sym t)
+    ∙ getD-append-add (take at d) (take m s) i 0
+    ∙ getD-take m s i 0 h
+
+-- one byte, at most one past the m that stand; `m + (suc i - m)` is the greater of m and i + 1
+over : (d : List ℕ) (at : ℕ) (s : List ℕ) (m i : ℕ) → i ≤ m → i < length s → m ≤ length s → at + length s ≤ length d
+    → set (paste d at s m) (at + i) (getD s i 0) ≡ paste d at s (m + (suc i - m))
+over d at s m i h g l k =
+    ⊎-elim
+    (λ (lt : i < m).
+    let same : m + (suc i - m) ≡ m = omega arith in
+    ap (λ (b : ℕ). set (paste d at s m) (at + i) b) (sym (under d at s m i lt l (omega arith)))
+    ∙ set-getD (paste d at s m) (at + i) 0
+    ∙ ap (paste d at s) (sym same))
+    (λ (le : m ≤ i).
+    let i=m : i ≡ m = omega arith in
+    let same : m + (suc i - m) ≡ suc i = omega arith in
+    ap (λ (n : ℕ). set (paste d at s n) (at + i) (getD s i 0)) (sym i=m)
+    ∙ paste-suc d at s i 0 (omega arith) g
+    ∙ ap (paste d at s) (sym same))
+    (lt-or-le i m)
+
+-- a block of 1 + n bytes from i on
+block : (d : List ℕ) (at : ℕ) (s : List ℕ) (m i n : ℕ) → i ≤ m → i + n < length s → m ≤ length s → at + length s ≤ length d
+    → stored (paste d at s m) (at + i) s i n ≡ paste d at s (m + (suc (i + n) - m))
+block d at s m i zero h g l k =
+    let e : i + 0 ≡ i = omega arith in
+    over d at s m i h (omega arith) l k ∙ ap (λ (x : ℕ). paste d at s (m + (suc x - m))) (sym e)
+block d at s m i (suc n) h g l k =
+    let m' : ℕ = m + (suc (i + n) - m) in
+    let same : m' + (suc (i + suc n) - m') ≡ m + (suc (i + suc n) - m) = omega arith in
+    ap (λ (x : List ℕ). set x (at + i + suc n) (getD s (i + suc n) 0)) (block d at s m i n h (omega arith) l k)
+    ∙ ap (λ (x : ℕ). set (paste d at s m') x (getD s (i + suc n) 0)) (add-assoc at i (suc n))
+    ∙ over d at s m' (i + suc n) (omega arith) g (omega arith) k
+    ∙ ap (paste d at s) same
+
+-- the same of a list that is such a copy, and for the place to which bytes stand afterwards
+pub block-to : (d x : List ℕ) (at : ℕ) (s : List ℕ) (m i n m' : ℕ) → x ≡ paste d at s m → i ≤ m → i + n < length s → m ≤ length s → at + length s ≤ length d
+    → m' ≡ m + (suc (i + n) - m) → stored x (at + i) s i n ≡ paste d at s m'
+block-to d x at s m i n m' e h g l k f =
+    ap (λ (y : List ℕ). stored y (at + i) s i n) e ∙ block d at s m i n h g l k ∙ ap (paste d at s) (sym f)
+
+-- what a copy answers and leaves, where the bytes do not fit and where they do
+pub too-many : (area : List ℕ) (at : ℕ) (bytes : List ℕ) → length area < at + length bytes
+    → (false ≡ fits area at bytes) × (area ≡ copied area at bytes)
+unfolding fits copied
+too-many area at bytes h = let e = lt-leb (at + length bytes) (length area) h in (sym e, rw e)
+
+pub all-fit : (area after : List ℕ) (at : ℕ) (bytes : List ℕ) → at + length bytes ≤ length area → after ≡ splice area at bytes
+    → (true ≡ fits area at bytes) × (after ≡ copied area at bytes)
+unfolding fits copied
+all-fit area after at bytes h p = let e = le-leb (at + length bytes) (length area) h in (sym e, rw e p)

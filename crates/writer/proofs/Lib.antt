@@ -1,0 +1,4 @@
+pub mod Forms
+pub mod Outcomes
+pub mod Members
+pub mod Runs

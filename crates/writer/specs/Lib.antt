@@ -1,0 +1,4 @@
+pub mod Form
+pub mod Wrote
+pub mod Fits
+pub mod Entry

@@ -1,0 +1,14 @@
+pub mod Moves
+pub mod Chains
+pub mod Joined
+pub mod Single
+pub mod Runs
+pub mod Pieces
+pub mod Numbers
+pub mod Values
+pub mod Embedded
+pub mod Frames
+pub mod OneForm
+pub mod Refusals
+pub mod RoundTrip
+pub mod Examples

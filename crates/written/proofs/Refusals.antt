@@ -1,0 +1,212 @@
+-- The refusal of a run as a number: 0 says that the run is taken and its entries are in range, and written entries give it.
+use Prim.Native.Nat.{ℕ, zero, suc, _-_, _≤_}
+use native.Mathlib.Omega.{arith}
+use mathlib.Core.Path.{_≡_, refl, ap, _∙_}
+use mathlib.Core.List.{List, [], _∷_, _++_, map}
+use mathlib.Core.Bool.{Bool, true, false}
+use lib.ListN.{length}
+use lib.Dec.{ltb, leb, eqb}
+use borrow.Author.Tests.{le-leb}
+use Rattle.laws.specs.Base.{pick, both, part}
+use Rattle.laws.proofs.Order.{picked}
+use Rattle.encoding.specs.Varint.{varintAt}
+use Rattle.encoding.specs.Schema.{kindOf, takes, InfoMessage}
+use Rattle.encoding.specs.Field.{tagFits, tagOf, tagAt, fixedAt, numberOf, partOf, payloadAt, stepOf, stepFrom, stepAt}
+use Rattle.encoding.specs.Check.{before, onStep, checkFrom, checkAt}
+use Rattle.encoding.specs.Items.{Item, items, everyBytes}
+use Rattle.encoding.specs.declared.varint.Varint.{Varint}
+use Rattle.encoding.specs.declared.varint.Varint.the-variants.{Value, PastEnd, TooLong}
+use Rattle.encoding.specs.declared.tag.Tag.{Tag}
+use Rattle.encoding.specs.declared.tag.Tag.the-variants as tag
+use Rattle.encoding.specs.declared.payload.Payload.{Payload}
+use Rattle.encoding.specs.declared.payload.Payload.the-variants as payload
+use Rattle.encoding.specs.declared.check.Step.{Step}
+use Rattle.encoding.specs.declared.check.Step.the-variants as step
+use Rattle.encoding.specs.declared.check.Checked.{Checked}
+use Rattle.encoding.specs.declared.check.Checked.the-variants as checked
+use Rattle.message.specs.Message as m
+use Rattle.message.specs.Message.{Bytes, entry, entries}
+use Rattle.range.specs.Range.{isSet, entryFits, entriesFit}
+use Rattle.wire.specs.Read.{checkNumber}
+use Rattle.written.specs.Draft.{EntryDraft, numval, strval, strlistval, numlistval, meantValue}
+use Rattle.written.specs.Run.{onEntry, onTag, runFrom, runAt, runRefusal}
+use Rattle.written.proofs.Joined.{items-joined}
+use Rattle.written.proofs.Values.{every-joined}
+use Rattle.written.proofs.Runs.{run-of, run-whole, run-joined}
+
+-- ---- a refusal's number is not 0
+
+abbrev TagTold : Tag → Type 0
+TagTold (tag.Field f w x) = Unit
+TagTold (tag.Refused r) = 1 ≤ r
+
+abbrev Told : Payload → Type 0
+Told (payload.Number v n) = Unit
+Told (payload.Fixed n) = Unit
+Told (payload.Part a e) = Unit
+Told (payload.Refused r p) = 1 ≤ r
+
+abbrev StepTold : Step → Type 0
+StepTold (step.Next n) = Unit
+StepTold (step.Inside i a e) = Unit
+StepTold (step.Refused r p) = 1 ≤ r
+
+abbrev CheckTold : Checked → Type 0
+CheckTold checked.Fine = Unit
+CheckTold (checked.Refused r p) = 1 ≤ r
+
+module _ (s : List ℕ) where
+  tag-told : (r : Varint) → TagTold (tagOf r)
+  unfolding tagOf
+  tag-told (Value v n) = picked TagTold (tagFits v) _ _ (λ _. tt) (λ _. omega arith)
+  tag-told PastEnd = omega arith
+  tag-told TooLong = omega arith
+
+  number-told : (x : ℕ) (r : Varint) → Told (numberOf x r)
+  unfolding numberOf
+  number-told x (Value v n) = tt
+  number-told x PastEnd = omega arith
+  number-told x TooLong = omega arith
+
+  part-told : (x : ℕ) (r : Varint) → Told (partOf s x r)
+  unfolding partOf
+  part-told x (Value v n) = picked Told (leb v (length s - n)) _ _ (λ _. tt) (λ _. omega arith)
+  part-told x PastEnd = omega arith
+  part-told x TooLong = omega arith
+
+  fixed-told : (at x width : ℕ) → Told (fixedAt s at x width)
+  unfolding fixedAt
+  fixed-told at x width = picked Told (leb width (length s - x)) _ _ (λ _. tt) (λ _. omega arith)
+
+  payload-told : (at x w : ℕ) → Told (payloadAt s at x w)
+  unfolding payloadAt
+  payload-told at x w =
+      picked Told (eqb w 0) _ _ (λ _. number-told x (varintAt s x))
+      (λ _. picked Told (eqb w 1) _ _ (λ _. fixed-told at x 8)
+      (λ _. picked Told (eqb w 5) _ _ (λ _. fixed-told at x 4) (λ _. part-told x (varintAt s x))))
+
+  step-of-told : (k : ℕ) (q : Payload) → Told q → StepTold (stepOf k q)
+  unfolding stepOf
+  step-of-told k (payload.Number v n) h = tt
+  step-of-told k (payload.Fixed n) h = tt
+  step-of-told k (payload.Part a e) h = picked StepTold (leb 16 k) _ _ (λ _. tt) (λ _. tt)
+  step-of-told k (payload.Refused r p) h = h
+
+  step-from-told : (m at : ℕ) (t : Tag) → TagTold t → StepTold (stepFrom m s at t)
+  unfolding stepFrom
+  step-from-told m at (tag.Refused r) h = h
+  step-from-told m at (tag.Field f w x) h =
+      picked StepTold (takes (kindOf m f) w) _ _ (λ _. step-of-told (kindOf m f) (payloadAt s at x w) (payload-told at x w)) (λ _. omega arith)
+
+  step-told : (m at : ℕ) → StepTold (stepAt m s at)
+  unfolding stepAt tagAt
+  step-told m at =
+      picked StepTold (eqb m 16) _ _ (λ _. step-of-told 0 (numberOf at (varintAt s at)) (number-told at (varintAt s at)))
+      (λ _. step-from-told m at (tagAt s at) (tag-told (varintAt s at)))
+
+before-told : (a : ℕ) (x y : Checked) → CheckTold x → CheckTold y → CheckTold (before a x y)
+unfolding before
+before-told a checked.Fine y h g = g
+before-told a (checked.Refused r p) y h g = h
+
+on-step-told : (go : ℕ → List ℕ → ℕ → Checked) → ((m : ℕ) (s : List ℕ) (at : ℕ) → CheckTold (go m s at))
+    → (m : ℕ) (s : List ℕ) (t : Step) → StepTold t → CheckTold (onStep go m s t)
+unfolding onStep
+on-step-told go f m s (step.Next n) h = f m s n
+on-step-told go f m s (step.Inside i a e) h = before-told a _ _ (f i (part s a e) 0) (f m s e)
+on-step-told go f m s (step.Refused r p) h = h
+
+check-told : (k m : ℕ) (s : List ℕ) (at : ℕ) → CheckTold (checkFrom k m s at)
+unfolding checkFrom
+check-told zero m s at = tt
+check-told (suc k) m s at =
+    picked CheckTold (ltb at (length s)) _ _ (λ _. on-step-told (checkFrom k) (check-told k) m s (stepAt m s at) (step-told s m at)) (λ _. tt)
+
+module _ (f : ℕ) (s : List ℕ) where
+  on-entry-told : (go : ℕ → Checked) → ((n : ℕ) → CheckTold (go n)) → (q : Payload) → Told q → CheckTold (onEntry go s q)
+  unfolding onEntry checkAt
+  on-entry-told go g (payload.Part a e) h = before-told a _ _ (check-told (suc (length (part s a e) - 0)) InfoMessage (part s a e) 0) (g e)
+  on-entry-told go g (payload.Number v n) h = g n
+  on-entry-told go g (payload.Fixed n) h = g n
+  on-entry-told go g (payload.Refused r p) h = h
+
+  on-tag-told : (go : ℕ → Checked) → ((n : ℕ) → CheckTold (go n)) → (at : ℕ) (t : Tag) → TagTold t → CheckTold (onTag go f s at t)
+  unfolding onTag
+  on-tag-told go g at (tag.Refused r) h = h
+  on-tag-told go g at (tag.Field n w x) h =
+      picked CheckTold (eqb n f) _ _
+      (λ _. picked CheckTold (eqb w 2) _ _ (λ _. on-entry-told go g (payloadAt s at x w) (payload-told s at x w)) (λ _. omega arith))
+      (λ _. omega arith)
+
+  run-from-told : (k at : ℕ) → CheckTold (runFrom k f s at)
+  unfolding runFrom tagAt
+  run-from-told zero at = tt
+  run-from-told (suc k) at =
+      picked CheckTold (ltb at (length s)) _ _ (λ _. on-tag-told (runFrom k f s) (run-from-told k) at (tagAt s at) (tag-told s (varintAt s at))) (λ _. tt)
+
+  number-fine : (c : Checked) (n : ℕ) → CheckTold c → checkNumber c n ≡ 0 → (c ≡ checked.Fine) × (n ≡ 0)
+  unfolding checkNumber
+  number-fine checked.Fine n h e = (refl, e)
+  number-fine (checked.Refused r p) n h e = absurd (omega arith)
+
+  fit : (t : Bool) → _≡_ {A = ℕ} (pick t 0 7) 0 → t ≡ true
+  fit true e = refl
+  fit false e = absurd (omega arith)
+
+  -- no refusal: the run is taken, and its entries are in range
+  pub no-refusal : runRefusal f s ≡ 0 → (runAt f s 0 ≡ checked.Fine) × (entriesFit (entries f (items s)) ≡ true)
+  unfolding runRefusal runAt
+  no-refusal e =
+      let h = number-fine (runAt f s 0) (pick (entriesFit (entries f (items s))) 0 7) (run-from-told (suc (length s - 0)) 0) e in
+      (h .0, fit (entriesFit (entries f (items s))) (h .1))
+
+  pub no-refusal-of : runAt f s 0 ≡ checked.Fine → entriesFit (entries f (items s)) ≡ true → runRefusal f s ≡ 0
+  unfolding runRefusal checkNumber
+  no-refusal-of e h = rw (e, h)
+
+-- ---- two runs
+
+fit-joined : (a b : List m.Entry) → entriesFit (a ++ b) ≡ both (entriesFit a) (entriesFit b)
+unfolding entriesFit
+fit-joined [] b = refl
+fit-joined (x ∷ a) b = ap (both (entryFits x)) (fit-joined a b) ∙ go (entryFits x) (entriesFit a) (entriesFit b)
+  where
+    go : (u v w : Bool) → both u (both v w) ≡ both (both u v) w
+    go true v w = refl
+    go false v w = refl
+
+pub entries-joined : (f : ℕ) (is js : List Item) → entries f (is ++ js) ≡ entries f is ++ entries f js
+unfolding entries
+entries-joined f is js = ap (map (λ (d : Bytes). entry (items d))) (every-joined f is js) ∙ go (everyBytes f is)
+  where
+    go : (ds : List Bytes) → map (λ (d : Bytes). entry (items d)) (ds ++ everyBytes f js)
+        ≡ map (λ (d : Bytes). entry (items d)) ds ++ map (λ (d : Bytes). entry (items d)) (everyBytes f js)
+    go [] = refl
+    go (d ∷ ds) = ap (λ (l : List m.Entry). entry (items d) ∷ l) (go ds)
+
+pub run-joined-taken : (f : ℕ) (a b : Bytes) → runRefusal f a ≡ 0 → runRefusal f b ≡ 0 → runRefusal f (a ++ b) ≡ 0
+run-joined-taken f a b x y =
+    let p = no-refusal f a x in
+    let q = no-refusal f b y in
+    let e : items (a ++ b) ≡ items a ++ items b = items-joined a b (run-whole f a (run-of f a (p .0))) (run-whole f b (run-of f b (q .0))) in
+    no-refusal-of f (a ++ b) (run-joined f a b (p .0) (q .0))
+    (ap (λ (is : List Item). entriesFit (entries f is)) e ∙ ap entriesFit (entries-joined f (items a) (items b))
+    ∙ fit-joined (entries f (items a)) (entries f (items b)) ∙ rw (p .1, q .1))
+
+-- ---- one entry
+
+value-set : (v : EntryDraft) → isSet (meantValue v) ≡ true
+unfolding isSet meantValue
+value-set (numval v) = refl
+value-set (strval d) = refl
+value-set (strlistval ds) = refl
+value-set (numlistval vs) = refl
+
+-- an entry that reads back with a key is in range
+pub entry-fits : (f : ℕ) (s d key : Bytes) (v : EntryDraft) → everyBytes f (items s) ≡ d ∷ [] → entry (items d) ≡ record { key = key; value = meantValue v }
+    → 1 ≤ length key → entriesFit (entries f (items s)) ≡ true
+unfolding entries entriesFit entryFits
+entry-fits f s d key v e r h =
+    ap (λ (ds : List Bytes). entriesFit (map (λ (x : Bytes). entry (items x)) ds)) e
+    ∙ ap (λ (x : m.Entry). both (entryFits x) true) r
+    ∙ rw (le-leb 1 (length key) h, value-set v)
