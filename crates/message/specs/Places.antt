@@ -1,6 +1,7 @@
 -- What the readers' answers stand for: the values at their places in the message's bytes s.
-use Prim.Native.Nat.{ℕ}
+use Prim.Native.Nat.{ℕ, _≤_}
 use mathlib.Core.List.{List}
+use lib.ListN.{length}
 use Rattle.laws.specs.Base.{part}
 use Rattle.encoding.specs.Items.{items, everyBytes}
 use Rattle.encoding.specs.declared.fields.Span.{Span}
@@ -21,6 +22,10 @@ use Rattle.message.specs.declared.Value.the-variants as held
 
 abbrev pub bytesAt : List ℕ → Span → Bytes
 bytesAt s p = part s (p .start) (p .end)
+
+-- the place lies in the message's bytes
+abbrev pub Within : List ℕ → Span → Type 0
+Within s p = (p .start ≤ p .end) × (p .end ≤ length s)
 
 unfoldable pub timeValue : Time → TimeSpec
 timeValue t = record { seconds = int64 (t .seconds); nanoseconds = int32 (t .nanos) }

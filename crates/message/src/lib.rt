@@ -11,7 +11,7 @@ ghost use mathlib.Core.Path.{_≡_};
 ghost use Rattle.encoding.specs.Items.{items, lastItem};
 ghost use Rattle.message.specs.Signed.{bool};
 ghost use Rattle.message.specs.Message as m;
-ghost use Rattle.message.specs.Places.{timeValue, acceptValue, reportValue, exitValue, restartValue, timedValue, windowValue, serverHelloValue, valueAt, entryValue};
+ghost use Rattle.message.specs.Places.{Within, timeValue, acceptValue, reportValue, exitValue, restartValue, timedValue, windowValue, serverHelloValue, valueAt, entryValue};
 
 // The bool of a field.
 fn flag_in(s: &[u8], number: u64) -> bool
@@ -70,7 +70,9 @@ pub struct Exit {
 }
 
 pub fn exit_in(s: &[u8]) -> Exit
-    ensures { λ r. ⌜ exitValue (now (s .entry)) r ≡ m.exit (items (now (s .entry))) ⌝ }
+    ensures value { λ r. ⌜ exitValue (now (s .entry)) r ≡ m.exit (items (now (s .entry))) ⌝ }
+    ensures signal { λ r. ⌜ Within (now (s .entry)) (r .signal) ⌝ }
+    ensures error { λ r. ⌜ Within (now (s .entry)) (r .error) ⌝ }
 {
     Exit {
         run_time: time_in(s, 1),
@@ -102,7 +104,8 @@ pub struct Timed {
 }
 
 pub fn timed_in(s: &[u8]) -> Timed
-    ensures { λ r. ⌜ timedValue (now (s .entry)) r ≡ m.timed (items (now (s .entry))) ⌝ }
+    ensures value { λ r. ⌜ timedValue (now (s .entry)) r ≡ m.timed (items (now (s .entry))) ⌝ }
+    ensures within { λ r. ⌜ Within (now (s .entry)) (r .contents) ⌝ }
 {
     Timed {
         delay: time_in(s, 1),

@@ -39,7 +39,7 @@ both-both : (a b : Bool) → T (both a b) → T a × T b
 both-both true b t = (tt, t)
 both-both false b t = absurd t
 
-io-numbers : (f : ℕ) → kindOf 0 f ≡ 22 → (6 ≤ f) × (f ≤ 10)
+pub io-numbers : (f : ℕ) → kindOf 0 f ≡ 22 → (6 ≤ f) × (f ≤ 10)
 unfolding io-rule kindOf schema
 io-numbers f e =
     let h = both-both (leb 6 f) (leb f 10) (rw (eq-eqb _ _ e) at (kinds 0 io-rule tt (λ n l. tt) f)) in

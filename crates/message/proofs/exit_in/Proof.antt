@@ -1,6 +1,7 @@
 use Rattle.message.specs.Message.{exit}
 use Rattle.message.specs.Places.{exitValue}
 use Rattle.message.proofs.Meaning.{time-means}
+use Rattle.encoding.proofs.Follow.{span-lies}
 use Rattle.encoding.proofs.Items.{number-means, bytes-means}
 use borrow.Author.Needs.{needs}
 use Rattle.message.proofs.exit_in.Statement.{statement}
@@ -23,7 +24,10 @@ part-in-requires-2 c κs = search needs
 
 returns : tie.Need-returns
 unfolding exitValue exit
-returns c = let s = c .before .before .before .before .before .before .args .s .now in rw (c .before .before .before .before .time-in .ensures, time-means 1 s, c .before .before .before .number-in .ensures, number-means s 2, c .before .before .flag-in .ensures, c .before .part-in .ensures, bytes-means s 4, c .part-in2 .ensures, bytes-means s 5)
+returns c = let s = c .before .before .before .before .before .before .args .s .now in (
+  rw (c .before .before .before .before .time-in .ensures, time-means 1 s, c .before .before .before .number-in .ensures, number-means s 2, c .before .before .flag-in .ensures, c .before .part-in .ensures, bytes-means s 4, c .part-in2 .ensures, bytes-means s 5),
+  (rw (c .before .part-in .ensures) (span-lies s 4), rw (c .part-in2 .ensures) (span-lies s 5)),
+)
 
 pub exit-in-spec : {M : Type 1} → statement M
 exit-in-spec =

@@ -1,6 +1,7 @@
 use Rattle.message.specs.Message.{timed}
 use Rattle.message.specs.Places.{timedValue}
 use Rattle.message.proofs.Meaning.{time-means}
+use Rattle.encoding.proofs.Follow.{span-lies}
 use Rattle.encoding.proofs.Items.{bytes-means}
 use borrow.Author.Needs.{needs}
 use Rattle.message.proofs.timed_in.Statement.{statement}
@@ -14,7 +15,7 @@ part-in-requires c κs = search needs
 
 returns : tie.Need-returns
 unfolding timedValue timed
-returns c = let s = c .before .before .before .args .s .now in rw (c .before .time-in .ensures, time-means 1 s, c .part-in .ensures, bytes-means s 2)
+returns c = let s = c .before .before .before .args .s .now in (rw (c .before .time-in .ensures, time-means 1 s, c .part-in .ensures, bytes-means s 2), rw (c .part-in .ensures) (span-lies s 2))
 
 pub timed-in-spec : {M : Type 1} → statement M
 timed-in-spec = tie.close (tie.spec time-in-requires part-in-requires returns)

@@ -1,0 +1,10 @@
+pub mod Numbers
+pub mod Records
+pub mod Times
+pub mod Heads
+pub mod Steps
+pub mod Stores
+pub mod Reading
+pub mod Appends
+pub mod Restarts
+pub mod Beginnings

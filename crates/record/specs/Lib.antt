@@ -1,0 +1,6 @@
+pub mod Digits
+pub mod Record
+pub mod File
+pub mod State
+pub mod Walk
+pub mod Store
