@@ -11,7 +11,7 @@ use Rattle.encoding.specs.declared.fields.Found.{Found}
 use Rattle.encoding.specs.declared.fields.Found.the-variants as found
 use Rattle.numbers.specs.Eight.{laid}
 use Rattle.elements.specs.Elements.{numbersAt}
-use Rattle.writer.specs.declared.outcome.Wrote.{Wrote}
+use Rattle.layout.specs.declared.outcome.Wrote.{Wrote}
 use Rattle.walk.specs.declared.client.ClientRead.{ClientRead}
 use Rattle.walk.specs.declared.client.ClientRead.the-variants as client
 
