@@ -10,13 +10,13 @@ use lib.Dec.{eqb}
 use borrow.Author.Tests.{lt-ltb, le-ltb}
 use Rattle.laws.specs.Base.{pick, part}
 use Rattle.laws.proofs.Order.{lt-or-le, picked}
-use Rattle.encoding.specs.Schema.{InfoMessage}
-use Rattle.encoding.specs.Field.{tagAt, payloadAt}
+use Rattle.field.specs.Schema.{InfoMessage}
+use Rattle.field.specs.Field.{tagAt, payloadAt}
 use Rattle.encoding.specs.Check.{before, checkOf}
-use Rattle.encoding.specs.declared.tag.Tag.{Tag}
-use Rattle.encoding.specs.declared.tag.Tag.the-variants as tag
-use Rattle.encoding.specs.declared.payload.Payload.{Payload}
-use Rattle.encoding.specs.declared.payload.Payload.the-variants as payload
+use Rattle.field.specs.declared.tag.Tag.{Tag}
+use Rattle.field.specs.declared.tag.Tag.the-variants as tag
+use Rattle.field.specs.declared.payload.Payload.{Payload}
+use Rattle.field.specs.declared.payload.Payload.the-variants as payload
 use Rattle.encoding.specs.declared.check.Checked.{Checked}
 use Rattle.encoding.specs.declared.check.Checked.the-variants as checked
 use Rattle.encoding.proofs.Steps.{TagRead, tag-at, PayloadRead, payload-at}

@@ -3,11 +3,11 @@ use Prim.Native.Nat.{ℕ}
 use mathlib.Core.List.{List}
 use lib.Dec.{eqb}
 use Rattle.laws.specs.Base.{pick}
-use Rattle.encoding.specs.Field.{tagAt, payloadAt}
-use Rattle.encoding.specs.declared.tag.Tag.{Tag}
-use Rattle.encoding.specs.declared.tag.Tag.the-variants as tag
-use Rattle.encoding.specs.declared.payload.Payload.{Payload}
-use Rattle.encoding.specs.declared.payload.Payload.the-variants as payload
+use Rattle.field.specs.Field.{tagAt, payloadAt}
+use Rattle.field.specs.declared.tag.Tag.{Tag}
+use Rattle.field.specs.declared.tag.Tag.the-variants as tag
+use Rattle.field.specs.declared.payload.Payload.{Payload}
+use Rattle.field.specs.declared.payload.Payload.the-variants as payload
 
 -- the value of an entry by its tag: 4 for a bad tag or another field, 5 for another wire type
 unfoldable pub entryOf : ℕ → List ℕ → ℕ → Tag → Payload

@@ -1,10 +1,10 @@
 // A run of entries, read before it is written: tagged `info_msgs` fields of the message and nothing else.
 use encoding::check::Checked;
 use encoding::check::check;
-use encoding::payload::Payload;
-use encoding::payload::payload_at;
-use encoding::tag::Tag;
-use encoding::tag::tag_at;
+use field::payload::Payload;
+use field::payload::payload_at;
+use field::tag::Tag;
+use field::tag::tag_at;
 use range::entries_fit;
 ghost use mathlib.Core.Path.{_≡_};
 ghost use Rattle.written.specs.Run.{runAt, runRefusal};

@@ -5,7 +5,7 @@ use mathlib.Core.Path.{_≡_}
 use lib.ListN.{length}
 use lib.Dec.{leb, eqb}
 use Rattle.laws.specs.Base.{pick}
-use Rattle.encoding.specs.Schema.{ClientMessage, InfoMessage, ServerMessage}
+use Rattle.field.specs.Schema.{ClientMessage, InfoMessage, ServerMessage}
 use Rattle.encoding.specs.Fields.{lastIn, memberFrom}
 use Rattle.encoding.specs.declared.fields.Found.{Found}
 use Rattle.encoding.specs.declared.fields.Found.the-variants as found

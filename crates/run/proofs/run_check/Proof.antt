@@ -2,8 +2,8 @@ use Rattle.run.proofs.Runs.{Reached, reached, run-next, run-end}
 use Rattle.written.specs.Run.{onEntry, runAt}
 use Rattle.encoding.proofs.Checks.{Placed, placed}
 use Rattle.encoding.specs.declared.check.Checked.{Checked}
-use Rattle.encoding.specs.declared.payload.Payload.the-variants as payload
-use Rattle.encoding.specs.declared.payload.Payload.{Payload}
+use Rattle.field.specs.declared.payload.Payload.the-variants as payload
+use Rattle.field.specs.declared.payload.Payload.{Payload}
 use Rattle.encoding.specs.Check.{before}
 use Rattle.laws.proofs.Parts.{length-part}
 use Rattle.laws.specs.Base.{part}
