@@ -2,8 +2,8 @@
 use mathlib.Core.Path.{_≡_, refl}
 use mathlib.Core.List.{List, [], _∷_}
 use Prim.Native.Nat.{ℕ}
-use Rattle.encoding.specs.Varint.{varintFrom}
-use Rattle.encoding.specs.Field.{tagFits, tagOf, tagAt, numberOf, partOf, payloadAt}
+use Rattle.field.specs.Varint.{varintFrom}
+use Rattle.field.specs.Field.{tagFits, tagOf, tagAt, numberOf, partOf, payloadAt}
 use Rattle.encoding.specs.Fields.{fieldOf, fieldFrom, fieldAt, onField, fieldsFrom, fieldsAt}
 use Rattle.encoding.specs.Items.{items, everyBytes}
 use Rattle.elements.specs.Elements.{elementsAt, onVarint, varintsFrom, varintsAt, numbersOf, numbersAt}

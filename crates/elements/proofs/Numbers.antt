@@ -10,13 +10,13 @@ use lib.Dec.{ltb, eqb}
 use borrow.Author.Tests.{lt-ltb, le-ltb}
 use Rattle.laws.specs.Base.{pick, part}
 use Rattle.laws.proofs.Order.{lt-or-le, picked}
-use Rattle.encoding.specs.Varint.{varintAt}
+use Rattle.field.specs.Varint.{varintAt}
 use Rattle.encoding.specs.Fields.{fieldAt, onField, fieldsAt}
 use Rattle.encoding.specs.Items.{number, bytes, itemOf, items}
 use Rattle.encoding.specs.declared.fields.Field.{Field}
-use Rattle.encoding.specs.declared.varint.Varint.{Varint}
-use Rattle.encoding.specs.declared.varint.Varint.the-variants.{Value, PastEnd}
-use Rattle.encoding.proofs.Varints.{past}
+use Rattle.field.specs.declared.varint.Varint.{Varint}
+use Rattle.field.specs.declared.varint.Varint.the-variants.{Value, PastEnd}
+use Rattle.field.proofs.Varints.{past}
 use Rattle.encoding.proofs.Steps.{Read, read}
 use Rattle.encoding.proofs.Follow.{FieldRead, field-read, follow, none}
 use Rattle.elements.specs.Elements.{itemsAt, onVarint, varintsAt, varints, numbersOf, numbersAt, told}

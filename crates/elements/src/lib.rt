@@ -2,14 +2,14 @@
 // proofs/Elements ties to the list of all of them; the numbers of a NumberList come by `next_number`.
 use encoding::fields::Field;
 use encoding::fields::field_at;
-use encoding::varint::Varint;
-use encoding::varint::varint_at;
+use field::varint::Varint;
+use field::varint::varint_at;
 ghost use mathlib.Core.Path.{_≡_};
 ghost use lib.ListN.{take};
 ghost use lib.Dec.{ltb, eqb};
 ghost use Rattle.laws.specs.Base.{pick};
-ghost use Rattle.encoding.specs.Varint.{varintAt};
-ghost use Rattle.encoding.specs.declared.varint.Varint.the-variants.{PastEnd};
+ghost use Rattle.field.specs.Varint.{varintAt};
+ghost use Rattle.field.specs.declared.varint.Varint.the-variants.{PastEnd};
 ghost use Rattle.elements.specs.Elements.{itemsAt, numbersOf, numbersAt, told};
 
 // The next number of a NumberList with the cursor past it: a place, and the end of the packed numbers that it is in.

@@ -8,7 +8,7 @@ use lib.ListN.{length, take, drop, length-take, length-drop}
 use lib.Dec.{ltb}
 use borrow.Author.Tests.{lt-ltb, le-ltb}
 use Rattle.laws.specs.Base.{pick}
-use Rattle.encoding.specs.Field.{stepAt}
+use Rattle.encoding.specs.Check.{stepAt}
 use Rattle.laws.specs.Base.{part}
 use Rattle.encoding.specs.Check.{before, onStep, checkFrom, checkAt, checkOf}
 use Rattle.encoding.specs.declared.check.Step.{Step}

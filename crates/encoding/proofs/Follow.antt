@@ -6,16 +6,16 @@ use mathlib.Core.List.{List, [], _∷_}
 use mathlib.Core.Logic.{⊎-elim}
 use lib.ListN.{length}
 use borrow.Author.Tests.{lt-ltb, le-ltb}
-use Rattle.encoding.specs.Varint.{varintAt}
-use Rattle.encoding.specs.Field.{tagAt, tagOf, payloadAt}
+use Rattle.field.specs.Varint.{varintAt}
+use Rattle.field.specs.Field.{tagAt, tagOf, payloadAt}
 use Rattle.encoding.specs.Fields.{fieldOf, fieldFrom, fieldAt, onField, fieldsFrom, fieldsAt, fieldsOf, among, later, lastOf, lastIn, startFrom, endFrom}
 use Rattle.encoding.specs.declared.fields.Last.{Last}
 use Rattle.encoding.specs.declared.fields.Last.the-variants as last
 use lib.Dec.{ltb}
-use Rattle.encoding.specs.declared.tag.Tag.{Tag}
-use Rattle.encoding.specs.declared.tag.Tag.the-variants as tag
-use Rattle.encoding.specs.declared.payload.Payload.{Payload}
-use Rattle.encoding.specs.declared.payload.Payload.the-variants as payload
+use Rattle.field.specs.declared.tag.Tag.{Tag}
+use Rattle.field.specs.declared.tag.Tag.the-variants as tag
+use Rattle.field.specs.declared.payload.Payload.{Payload}
+use Rattle.field.specs.declared.payload.Payload.the-variants as payload
 use Rattle.encoding.specs.declared.fields.Field.{Field}
 use Rattle.encoding.specs.declared.fields.Field.the-variants as field
 use Rattle.laws.proofs.Order.{lt-or-le}

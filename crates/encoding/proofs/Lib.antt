@@ -1,6 +1,3 @@
-pub mod Varints
-pub mod Slow
-pub mod Rows
 pub mod Steps
 pub mod Checks
 pub mod Follow

@@ -8,19 +8,20 @@ use mathlib.Core.Logic.{_⊎_, inl, inr, ⊎-elim}
 use lib.ListN.{length, getD}
 use lib.Dec.{ltb, leb, eqb}
 use borrow.Author.Tests.{leb-true}
-use Rattle.encoding.specs.Varint.{varintFrom, varintAt, above}
+use Rattle.field.specs.Varint.{varintFrom, varintAt, above}
 use Rattle.laws.specs.Base.{pick}
-use Rattle.encoding.specs.Schema.{kindOf, takes}
-use Rattle.encoding.specs.Field.{tagFits, tagOf, tagAt, fixedAt, numberOf, partOf, payloadAt, stepOf, stepFrom, stepAt}
-use Rattle.encoding.specs.declared.varint.Varint.{Varint}
-use Rattle.encoding.specs.declared.varint.Varint.the-variants.{Value, PastEnd, TooLong}
-use Rattle.encoding.specs.declared.tag.Tag.{Tag}
-use Rattle.encoding.specs.declared.tag.Tag.the-variants as tag
-use Rattle.encoding.specs.declared.payload.Payload.{Payload}
-use Rattle.encoding.specs.declared.payload.Payload.the-variants as payload
+use Rattle.field.specs.Schema.{kindOf, takes}
+use Rattle.field.specs.Field.{tagFits, tagOf, tagAt, fixedAt, numberOf, partOf, payloadAt}
+use Rattle.encoding.specs.Check.{stepOf, stepFrom, stepAt}
+use Rattle.field.specs.declared.varint.Varint.{Varint}
+use Rattle.field.specs.declared.varint.Varint.the-variants.{Value, PastEnd, TooLong}
+use Rattle.field.specs.declared.tag.Tag.{Tag}
+use Rattle.field.specs.declared.tag.Tag.the-variants as tag
+use Rattle.field.specs.declared.payload.Payload.{Payload}
+use Rattle.field.specs.declared.payload.Payload.the-variants as payload
 use Rattle.encoding.specs.declared.check.Step.{Step}
 use Rattle.encoding.specs.declared.check.Step.the-variants as step
-use Rattle.encoding.proofs.Varints.{past, last-fits, last-long, ends, goes-on}
+use Rattle.field.proofs.Varints.{past, last-fits, last-long, ends, goes-on}
 use Rattle.laws.proofs.Order.{lt-or-le}
 
 -- what holds of both holds of the one picked

@@ -3,13 +3,40 @@
 use Prim.Native.Nat.{ℕ, zero, suc, _+_, _-_}
 use mathlib.Core.List.{List}
 use lib.ListN.{length}
-use lib.Dec.{ltb}
+use lib.Dec.{ltb, leb, eqb}
 use Rattle.laws.specs.Base.{pick, part}
-use Rattle.encoding.specs.Field.{stepAt}
+use Rattle.field.specs.Varint.{varintAt}
+use Rattle.field.specs.Field.{tagAt, numberOf, payloadAt}
+use Rattle.field.specs.Schema.{kindOf, takes}
+use Rattle.field.specs.declared.tag.Tag.{Tag}
+use Rattle.field.specs.declared.tag.Tag.the-variants as tag
+use Rattle.field.specs.declared.payload.Payload.{Payload}
+use Rattle.field.specs.declared.payload.Payload.the-variants as payload
 use Rattle.encoding.specs.declared.check.Step.{Step}
 use Rattle.encoding.specs.declared.check.Step.the-variants as step
 use Rattle.encoding.specs.declared.check.Checked.{Checked}
 use Rattle.encoding.specs.declared.check.Checked.the-variants as checked
+
+-- ---- one field
+
+-- what a value means to the check: an embedded message, or packed numbers, are looked into
+unfoldable pub stepOf : ℕ → Payload → Step
+stepOf k (payload.Number v n) = step.Next n
+stepOf k (payload.Fixed n) = step.Next n
+stepOf k (payload.Part a e) = pick (leb 16 k) (step.Inside (k - 16) a e) (step.Next e)
+stepOf k (payload.Refused r p) = step.Refused r p
+
+-- a field of the message m by its tag: at one tag 4 goes before 5, and 5 before what fails in the value
+unfoldable pub stepFrom : ℕ → List ℕ → ℕ → Tag → Step
+stepFrom m s at (tag.Refused r) = step.Refused r at
+stepFrom m s at (tag.Field n w x) =
+    pick (takes (kindOf m n) w) (stepOf (kindOf m n) (payloadAt s at x w)) (step.Refused 5 at)
+
+-- packed numbers, message 16, have a varint where other messages have a field
+unfoldable pub stepAt : ℕ → List ℕ → ℕ → Step
+stepAt m s at = pick (eqb m 16) (stepOf 0 (numberOf at (varintAt s at))) (stepFrom m s at (tagAt s at))
+
+-- ---- all of them
 
 -- what the part from a on refuses, by its place in the whole; else what the rest gives
 unfoldable pub before : ℕ → Checked → Checked → Checked

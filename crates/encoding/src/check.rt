@@ -1,16 +1,17 @@
 // The check of any message, by the one schema.
-use crate::payload::Payload;
-use crate::payload::number_at;
-use crate::payload::payload_at;
-use crate::schema::kind_of;
-use crate::schema::takes;
-use crate::tag::Tag;
-use crate::tag::tag_at;
-use crate::tag::tag_of;
+use field::payload::Payload;
+use field::payload::number_at;
+use field::payload::payload_at;
+use field::schema::kind_of;
+use field::schema::takes;
+use field::tag::Tag;
+use field::tag::tag_at;
+use field::tag::tag_of;
 ghost use mathlib.Core.Path.{_≡_};
-ghost use Rattle.encoding.specs.Field.{tagOf, stepOf, stepFrom, stepAt};
+ghost use Rattle.field.specs.Field.{tagOf};
+ghost use Rattle.encoding.specs.Check.{stepOf, stepFrom, stepAt};
 ghost use Rattle.encoding.specs.Check.{checkOf};
-ghost use Rattle.encoding.specs.declared.varint.Varint.the-variants.{Value};
+ghost use Rattle.field.specs.declared.varint.Varint.the-variants.{Value};
 
 // What a field means to the check of its message.
 pub enum Step {

@@ -1,8 +1,8 @@
 // A message's fields, one after the other, and the last of some numbers among them.
-use crate::payload::Payload;
-use crate::payload::payload_at;
-use crate::tag::Tag;
-use crate::tag::tag_at;
+use field::payload::Payload;
+use field::payload::payload_at;
+use field::tag::Tag;
+use field::tag::tag_at;
 ghost use mathlib.Core.Path.{_≡_};
 ghost use Rattle.encoding.specs.Fields.{fieldAt, fieldsAt, lastIn, numberIn, spanIn, firstOf};
 

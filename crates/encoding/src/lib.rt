@@ -1,8 +1,4 @@
-// The Protocol Buffers encoding, as far as document 01 takes it: varints, tags, values, the schema of
-// sudo_logsrv.proto, and one walk that checks any of its messages.
+// The Protocol Buffers encoding, as far as document 01 takes it: one walk that checks any message of the schema, and the fields
+// of a message.
 pub mod check;
 pub mod fields;
-pub mod payload;
-pub mod schema;
-pub mod tag;
-pub mod varint;

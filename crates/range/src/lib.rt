@@ -5,7 +5,7 @@ use encoding::fields::last_in;
 use encoding::fields::next_part;
 use encoding::fields::number_in;
 use encoding::fields::part_in;
-use encoding::schema::kind_of;
+use field::schema::kind_of;
 use message::Value;
 use message::time_spec_in;
 use message::value_in;

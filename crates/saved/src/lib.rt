@@ -35,7 +35,14 @@ pub fn save(slice: &mut [u8], se: Session) -> bool
     if slice.len() == 40 {
         let mark = se.mark;
         let state = se.state;
-        return lay_five(slice, state_number(state) + mark_number(mark), se.used as u64, se.total, se.low, mark_point(mark));
+        return lay_five(
+            slice,
+            state_number(state) + mark_number(mark),
+            se.used as u64,
+            se.total,
+            se.low,
+            mark_point(mark),
+        );
     }
     false
 }

@@ -5,13 +5,13 @@ use mathlib.Core.Path.{_≡_}
 use lib.ListN.{length}
 use lib.Dec.{leb, eqb}
 use Rattle.laws.specs.Base.{pick}
-use Rattle.encoding.specs.Schema.{ClientMessage, InfoMessage, ServerMessage}
+use Rattle.field.specs.Schema.{ClientMessage, InfoMessage, ServerMessage}
 use Rattle.encoding.specs.Fields.{lastIn, memberFrom}
 use Rattle.encoding.specs.declared.fields.Found.{Found}
 use Rattle.encoding.specs.declared.fields.Found.the-variants as found
 use Rattle.numbers.specs.Eight.{laid}
 use Rattle.elements.specs.Elements.{numbersAt}
-use Rattle.writer.specs.declared.outcome.Wrote.{Wrote}
+use Rattle.layout.specs.declared.outcome.Wrote.{Wrote}
 use Rattle.walk.specs.declared.client.ClientRead.{ClientRead}
 use Rattle.walk.specs.declared.client.ClientRead.the-variants as client
 

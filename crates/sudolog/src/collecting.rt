@@ -72,7 +72,14 @@ pub extern "C" fn sudolog_session_message(
     let point = a.point;
     let state = session.state;
     save(slice, session);
-    lay_five(out, a.used as u64, a.key as u64, has_point(point), point_number(point), state_number(state));
+    lay_five(
+        out,
+        a.used as u64,
+        a.key as u64,
+        has_point(point),
+        point_number(point),
+        state_number(state),
+    );
     a.refusal
 }
 

@@ -1,5 +1,5 @@
 // The writers for C. Each answers one number: how many bytes it wrote in the low 32 bits, its refusal above them.
-use writer::outcome::Wrote;
+use layout::outcome::Wrote;
 ghost use mathlib.Core.Path.{_≡_};
 ghost use mathlib.Core.Bool.{true};
 ghost use mathlib.Core.List.{[], _∷_};
@@ -8,7 +8,7 @@ ghost use Rattle.message.specs.Signed.{bool};
 ghost use Rattle.sudolog.specs.Answers.{answerOf};
 ghost use Rattle.pieces.specs.Put.{stamp};
 ghost use Rattle.writer.specs.Fits.{acceptFits, clientHelloFits, endsFit, entryFits, entryStringsFits, exitFits, ioFits, noteFits, reportFits, restartFits, serverHelloFits, suspendFits, timeFits, windowFits};
-ghost use Rattle.writer.specs.Wrote.{wrote};
+ghost use Rattle.layout.specs.Wrote.{wrote};
 ghost use Rattle.written.specs.Draft.{acceptPieces, clientHelloPieces, cutAt, entryPieces, exitPieces, numberListPieces, numlistval, numval, reportPieces, restartPieces, serverHelloPieces, stringListPieces, strlistval, strval, timePieces, timedPieces, windowPieces, wrapped};
 ghost use Rattle.written.specs.Outcome.{buffer};
 ghost use Rattle.written.specs.Pieces.{bytes, encodeAll};

@@ -8,17 +8,18 @@ use lib.ListN.{length, getD}
 use lib.Dec.{T, leb, ltb, eqb, lit≤, leb→le, eqb→eq}
 use borrow.Author.Tests.{lt-leb, le-leb, lt-ltb, le-ltb, ne-eqb, eq-eqb, eqb-true, ltb-true}
 use Rattle.laws.specs.Base.{pick, both}
-use Rattle.encoding.specs.Varint.{varintAt}
-use Rattle.encoding.specs.Schema.{kindOf, takes, schema}
-use Rattle.encoding.specs.Field.{tagAt, partOf, payloadAt, stepOf, stepAt}
+use Rattle.field.specs.Varint.{varintAt}
+use Rattle.field.specs.Schema.{kindOf, takes, schema}
+use Rattle.field.specs.Field.{tagAt, partOf, payloadAt}
+use Rattle.encoding.specs.Check.{stepOf, stepAt}
 use Rattle.laws.specs.Base.{part}
 use Rattle.encoding.specs.Check.{checkAt, checkOf}
 use Rattle.encoding.specs.Fields.{fieldOf, fieldsAt, among, later, lastOf, lastIn}
 use Rattle.walk.specs.Places.{timeIn, ioRead, ioBufferOf, memberRead, clientFrom, clientRead, clientOf}
 use Rattle.encoding.specs.Fields.{startFrom, endFrom}
-use Rattle.encoding.specs.declared.tag.Tag.the-variants as tag
-use Rattle.encoding.specs.declared.payload.Payload.{Payload}
-use Rattle.encoding.specs.declared.payload.Payload.the-variants as payload
+use Rattle.field.specs.declared.tag.Tag.the-variants as tag
+use Rattle.field.specs.declared.payload.Payload.{Payload}
+use Rattle.field.specs.declared.payload.Payload.the-variants as payload
 use Rattle.encoding.specs.declared.check.Step.the-variants as step
 use Rattle.encoding.specs.declared.check.Checked.{Checked}
 use Rattle.encoding.specs.declared.check.Checked.the-variants as checked
@@ -32,7 +33,7 @@ use Rattle.walk.specs.declared.client.ClientRead.{ClientRead}
 use Rattle.walk.specs.declared.client.ClientRead.the-variants as client
 use Rattle.encoding.proofs.Checks.{at-end}
 use Rattle.encoding.proofs.Follow.{none, span-lies}
-use Rattle.encoding.proofs.Rows.{kinds}
+use Rattle.field.proofs.Rows.{kinds}
 use Rattle.encoding.proofs.Walk.{On, leads-on, ends-at, outside, inside-on, inside-stops, no-number, field-leads, field-inside, field-part, field-stops}
 
 -- what an I/O buffer's walk says of its check and where its data lies

@@ -8,16 +8,17 @@ use lib.ListN.{length, getD}
 use lib.Dec.{T, leb, ltb, eqb, lit≤, ltb→lt}
 use borrow.Author.Tests.{ne-eqb, eqb-true, ltb-true}
 use Rattle.laws.specs.Base.{pick}
-use Rattle.encoding.specs.Varint.{varintAt}
-use Rattle.encoding.specs.Schema.{kindOf, takes, schema}
-use Rattle.encoding.specs.Field.{tagFits, tagOf, partOf, stepFrom, stepAt}
+use Rattle.field.specs.Varint.{varintAt}
+use Rattle.field.specs.Schema.{kindOf, takes, schema}
+use Rattle.field.specs.Field.{tagFits, tagOf, partOf}
+use Rattle.encoding.specs.Check.{stepFrom, stepAt}
 use Rattle.laws.specs.Base.{part}
 use Rattle.encoding.specs.Check.{checkAt, checkOf}
 use Rattle.encoding.specs.Fields.{fieldOf, fieldsAt, among, later, lastOf, lastIn}
 use Rattle.walk.specs.Places.{timeOf, timeFrom, timeRead, timeSpecOf, ioRead, ioBufferOf}
 use Rattle.encoding.specs.Fields.{startFrom, endFrom}
-use Rattle.encoding.specs.declared.varint.Varint.the-variants.{Value}
-use Rattle.encoding.specs.declared.payload.Payload.the-variants as payload
+use Rattle.field.specs.declared.varint.Varint.the-variants.{Value}
+use Rattle.field.specs.declared.payload.Payload.the-variants as payload
 use Rattle.encoding.specs.declared.check.Step.the-variants as step
 use Rattle.encoding.specs.declared.check.Checked.{Checked}
 use Rattle.encoding.specs.declared.check.Checked.the-variants as checked
@@ -30,7 +31,7 @@ use Rattle.walk.specs.declared.time.TimeRead.the-variants as timeread
 use Rattle.walk.specs.declared.io.IoRead.the-variants as ioread
 use Rattle.encoding.proofs.Checks.{at-end}
 use Rattle.encoding.proofs.Follow.{none}
-use Rattle.encoding.proofs.Rows.{kinds}
+use Rattle.field.proofs.Rows.{kinds}
 use Rattle.encoding.proofs.Walk.{On, leads-on, ends-at, outside, other, rest-leads, part-field, part-leads, part-inside, part-stops, inside-on, inside-stops, none-inside}
 
 -- what a TimeSpec's walk says of its check and its numbers

@@ -8,16 +8,17 @@ use lib.ListN.{length, getD}
 use lib.Dec.{T, leb, ltb, eqb, lit≤, ltb→lt}
 use borrow.Author.Tests.{lt-leb, ne-eqb, eq-eqb, eqb-true, ltb-true, leb-true}
 use Rattle.laws.specs.Base.{pick}
-use Rattle.encoding.specs.Varint.{varintAt}
-use Rattle.encoding.specs.Schema.{kindOf, takes, schema}
-use Rattle.encoding.specs.Field.{tagFits, tagOf, payloadAt, stepOf, stepFrom, stepAt}
+use Rattle.field.specs.Varint.{varintAt}
+use Rattle.field.specs.Schema.{kindOf, takes, schema}
+use Rattle.field.specs.Field.{tagFits, tagOf, payloadAt}
+use Rattle.encoding.specs.Check.{stepOf, stepFrom, stepAt}
 use Rattle.encoding.specs.Check.{checkAt, checkOf}
 use Rattle.encoding.specs.Fields.{fieldOf, fieldsAt, fieldsOf, among, later, lastOf}
 use Rattle.encoding.specs.Fields.{numberFrom, numberIn}
 use Rattle.walk.specs.Places.{timeRead, timeSpecOf}
-use Rattle.encoding.specs.declared.varint.Varint.the-variants.{Value, PastEnd, TooLong}
-use Rattle.encoding.specs.declared.payload.Payload.{Payload}
-use Rattle.encoding.specs.declared.payload.Payload.the-variants as payload
+use Rattle.field.specs.declared.varint.Varint.the-variants.{Value, PastEnd, TooLong}
+use Rattle.field.specs.declared.payload.Payload.{Payload}
+use Rattle.field.specs.declared.payload.Payload.the-variants as payload
 use Rattle.encoding.specs.declared.check.Step.{Step}
 use Rattle.encoding.specs.declared.check.Step.the-variants as step
 use Rattle.encoding.specs.declared.check.Checked.the-variants as checked
@@ -29,7 +30,7 @@ use Rattle.walk.specs.declared.time.TimeRead.the-variants as timeread
 use Rattle.encoding.proofs.Checks.{at-end}
 use Rattle.encoding.proofs.Follow.{none}
 use Rattle.encoding.proofs.Walk.{alone}
-use Rattle.encoding.proofs.Rows.{kinds}
+use Rattle.field.proofs.Rows.{kinds}
 use Rattle.encoding.proofs.Walk.{Leads, further, checks-on, keeps-on, ends-at, outside, same-number, number-leads, number-past, number-long, Rest, rest-leads}
 
 -- at a place of the walk: the check and the last numbers of the whole are those from here on

@@ -3,12 +3,12 @@ use crate::io::IoRead;
 use crate::io::io_buffer;
 use encoding::check::Checked;
 use encoding::check::check;
-use encoding::payload::Payload;
-use encoding::payload::payload_at;
-use encoding::schema::kind_of;
-use encoding::schema::takes;
-use encoding::tag::Tag;
-use encoding::tag::tag_at;
+use field::payload::Payload;
+use field::payload::payload_at;
+use field::schema::kind_of;
+use field::schema::takes;
+use field::tag::Tag;
+use field::tag::tag_at;
 ghost use mathlib.Core.Path.{_≡_};
 ghost use Rattle.walk.specs.Places.{clientOf};
 

@@ -3,10 +3,10 @@ use crate::time::TimeRead;
 use crate::time::time_spec;
 use encoding::check::Step;
 use encoding::check::rest_at;
-use encoding::payload::Payload;
-use encoding::payload::part_at;
-use encoding::varint::Varint;
-use encoding::varint::varint_at;
+use field::payload::Payload;
+use field::payload::part_at;
+use field::varint::Varint;
+use field::varint::varint_at;
 ghost use mathlib.Core.Path.{_≡_};
 ghost use Rattle.walk.specs.Places.{ioBufferOf};
 

@@ -4,8 +4,8 @@ use encoding::check::rest_at;
 use encoding::fields::Last;
 use encoding::fields::last_in;
 use encoding::fields::number_in;
-use encoding::varint::Varint;
-use encoding::varint::varint_at;
+use field::varint::Varint;
+use field::varint::varint_at;
 ghost use mathlib.Core.Path.{_≡_};
 ghost use Rattle.walk.specs.Places.{timeIn, timeSpecOf};
 

@@ -9,7 +9,7 @@ use lib.Dec.{T, leb, eqb, leb→le}
 use borrow.Author.Tests.{le-leb, ne-eqb, eqb-true, eq-eqb}
 use Rattle.laws.specs.Base.{pick, both, part}
 use Rattle.laws.proofs.Parts.{part-part, length-part}
-use Rattle.encoding.specs.Schema.{schema, kindOf}
+use Rattle.field.specs.Schema.{schema, kindOf}
 use Rattle.encoding.specs.Check.{checkOf}
 use Rattle.encoding.specs.Fields.{lastIn, startFrom, endFrom}
 use Rattle.encoding.specs.Items.{Item, items, lastItem}
@@ -17,7 +17,7 @@ use Rattle.encoding.specs.declared.check.Checked.{Checked}
 use Rattle.encoding.specs.declared.check.Checked.the-variants as checked
 use Rattle.encoding.specs.declared.fields.Last.{Last}
 use Rattle.encoding.specs.declared.fields.Last.the-variants as last
-use Rattle.encoding.proofs.Rows.{kinds}
+use Rattle.field.proofs.Rows.{kinds}
 use Rattle.encoding.proofs.Follow.{LastLies, last-in-lies, span-lies}
 use Rattle.encoding.proofs.Items.{contentOf, last-means, bytes-means}
 use Rattle.walk.specs.Places.{timeIn, ioRead, ioBufferOf, memberRead, clientFrom, clientRead, clientOf}

@@ -1,4 +1,1 @@
-pub mod Forms
-pub mod Outcomes
 pub mod Members
-pub mod Runs

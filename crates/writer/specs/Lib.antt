@@ -1,4 +1,1 @@
-pub mod Form
-pub mod Wrote
 pub mod Fits
-pub mod Entry

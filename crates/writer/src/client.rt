@@ -5,11 +5,11 @@ use crate::fits::flag;
 use crate::fits::member_in;
 use crate::fits::moment_fits;
 use crate::fits::sized;
-use crate::form::listed;
-use crate::form::timed;
-use crate::outcome::Wrote;
-use crate::run::run_refusal;
-use crate::write::write_plain;
+use layout::form::listed;
+use layout::form::timed;
+use layout::outcome::Wrote;
+use layout::write::write_plain;
+use run::run_refusal;
 ghost use mathlib.Core.Path.{_≡_};
 ghost use lib.ListN.{length};
 ghost use Rattle.written.specs.Draft.{acceptPieces, reportPieces, exitPieces, restartPieces, timedPieces, windowPieces, clientHelloPieces, wrapped};
@@ -17,7 +17,7 @@ ghost use Rattle.written.specs.Run.{runRefusal};
 ghost use Rattle.written.specs.Outcome.{buffer};
 ghost use Rattle.pieces.specs.Put.{stamp};
 ghost use Rattle.writer.specs.Fits.{clientHelloFits, acceptFits, reportMember, reportFits, exitFits, restartFits, ioFits, windowFits, suspendFits};
-ghost use Rattle.writer.specs.Wrote.{wrote};
+ghost use Rattle.layout.specs.Wrote.{wrote};
 
 // A ClientHello, member 13.
 pub fn write_client_hello(member: u64, client_id: &[u8], framed: bool, out: &mut [u8]) -> Wrote

@@ -2,11 +2,11 @@
 // an AlertMessage (member 3): runs are tagged entries one after the other. Lists of strings are lent as joined bytes and ends.
 use crate::fits::both;
 use crate::fits::member_in;
-use crate::form::listed;
-use crate::form::numbered;
-use crate::outcome::Wrote;
-use crate::write::write_message;
-use crate::write::write_plain;
+use layout::form::listed;
+use layout::form::numbered;
+use layout::outcome::Wrote;
+use layout::write::write_message;
+use layout::write::write_plain;
 use pieces::list::ends_fit;
 ghost use mathlib.Core.Path.{_≡_};
 ghost use mathlib.Core.Bool.{true};
@@ -14,7 +14,7 @@ ghost use lib.ListN.{length};
 ghost use Rattle.written.specs.Draft.{numval, strval, strlistval, numlistval, entryPieces, stringListPieces, numberListPieces, cutAt, wrapped};
 ghost use Rattle.written.specs.Outcome.{buffer};
 ghost use Rattle.writer.specs.Fits.{endsFit, entryFits, entryStringsFits};
-ghost use Rattle.writer.specs.Wrote.{wrote};
+ghost use Rattle.layout.specs.Wrote.{wrote};
 
 // A StringList by itself.
 pub fn write_string_list(joined: &[u8], ends: &[usize], framed: bool, out: &mut [u8]) -> Wrote

@@ -5,8 +5,4 @@
 pub mod client;
 pub mod entry;
 mod fits;
-mod form;
-pub mod outcome;
-mod run;
 pub mod server;
-mod write;

@@ -3,11 +3,11 @@ use crate::fits::both;
 use crate::fits::flag;
 use crate::fits::member_in;
 use crate::fits::moment_fits;
-use crate::form::listed;
-use crate::form::numbered;
-use crate::outcome::Wrote;
-use crate::write::write_message;
-use crate::write::write_plain;
+use layout::form::listed;
+use layout::form::numbered;
+use layout::outcome::Wrote;
+use layout::write::write_message;
+use layout::write::write_plain;
 use pieces::list::ends_fit;
 ghost use mathlib.Core.Path.{_≡_};
 ghost use mathlib.Core.List.{[], _∷_};
@@ -17,7 +17,7 @@ ghost use Rattle.written.specs.Draft.{timePieces, serverHelloPieces, cutAt, wra
 ghost use Rattle.written.specs.Outcome.{buffer};
 ghost use Rattle.pieces.specs.Put.{stamp};
 ghost use Rattle.writer.specs.Fits.{serverHelloFits, timeFits, noteFits};
-ghost use Rattle.writer.specs.Wrote.{wrote};
+ghost use Rattle.layout.specs.Wrote.{wrote};
 
 // A ServerHello, member 1; its servers are lent as joined bytes and ends.
 pub fn write_server_hello(

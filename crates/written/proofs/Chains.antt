@@ -8,7 +8,7 @@ use mathlib.Core.Logic.{⊎-elim}
 use lib.ListN.{length}
 use Rattle.laws.specs.Base.{part}
 use Rattle.laws.proofs.Order.{lt-or-le}
-use Rattle.encoding.specs.Field.{stepAt}
+use Rattle.encoding.specs.Check.{stepAt}
 use Rattle.encoding.specs.Check.{before, onStep, checkAt, checkOf}
 use Rattle.encoding.specs.Fields.{fieldAt}
 use Rattle.encoding.specs.declared.check.Step.{Step}

@@ -7,7 +7,7 @@ use mathlib.Core.Bool.{Bool, true, false}
 use lib.ListN.{length, length-append}
 use lib.Dec.{ltb, leb, eqb}
 use Rattle.laws.specs.Base.{pick}
-use Rattle.encoding.specs.Schema.{schema, kindOf, takes}
+use Rattle.field.specs.Schema.{schema, kindOf, takes}
 use Rattle.encoding.specs.Fields.{among}
 use Rattle.encoding.specs.Items as i
 use Rattle.encoding.specs.Items.{Item, none, items, lastFrom, numberOf, bytesOf, everyBytes}

@@ -13,21 +13,22 @@ use borrow.Author.Tests.{le-leb, leb-true}
 use Rattle.laws.specs.Base.{pick, part}
 use Rattle.laws.proofs.Order.{lt-or-le}
 use Rattle.laws.proofs.Parts.{part-part}
-use Rattle.encoding.specs.Varint.{above, varintFrom, varintAt}
-use Rattle.encoding.specs.Schema.{kindOf, takes}
-use Rattle.encoding.specs.Field.{tagFits, tagOf, tagAt, fixedAt, numberOf, partOf, payloadAt, stepOf, stepFrom, stepAt}
+use Rattle.field.specs.Varint.{above, varintFrom, varintAt}
+use Rattle.field.specs.Schema.{kindOf, takes}
+use Rattle.field.specs.Field.{tagFits, tagOf, tagAt, fixedAt, numberOf, partOf, payloadAt}
+use Rattle.encoding.specs.Check.{stepOf, stepFrom, stepAt}
 use Rattle.encoding.specs.Fields.{fieldOf, fieldFrom, fieldAt}
-use Rattle.encoding.specs.declared.varint.Varint.{Varint}
-use Rattle.encoding.specs.declared.varint.Varint.the-variants.{Value, PastEnd, TooLong}
-use Rattle.encoding.specs.declared.tag.Tag.{Tag}
-use Rattle.encoding.specs.declared.tag.Tag.the-variants as tag
-use Rattle.encoding.specs.declared.payload.Payload.{Payload}
-use Rattle.encoding.specs.declared.payload.Payload.the-variants as payload
+use Rattle.field.specs.declared.varint.Varint.{Varint}
+use Rattle.field.specs.declared.varint.Varint.the-variants.{Value, PastEnd, TooLong}
+use Rattle.field.specs.declared.tag.Tag.{Tag}
+use Rattle.field.specs.declared.tag.Tag.the-variants as tag
+use Rattle.field.specs.declared.payload.Payload.{Payload}
+use Rattle.field.specs.declared.payload.Payload.the-variants as payload
 use Rattle.encoding.specs.declared.check.Step.{Step}
 use Rattle.encoding.specs.declared.check.Step.the-variants as step
 use Rattle.encoding.specs.declared.fields.Field.{Field}
 use Rattle.encoding.specs.declared.fields.Field.the-variants as field
-use Rattle.encoding.proofs.Varints.{past, last-fits, last-long, ends, goes-on}
+use Rattle.field.proofs.Varints.{past, last-fits, last-long, ends, goes-on}
 
 -- s lies in S from place p on
 pub record Lies (S s : List ℕ) (p : ℕ) : Type 0 where

@@ -10,12 +10,13 @@ use lib.Seq.{take-length}
 use lib.Dec.{eqb}
 use borrow.Author.Tests.{eqb-true}
 use Rattle.laws.specs.Base.{pick, part}
-use Rattle.encoding.specs.Varint.{varintFrom, varintAt}
-use Rattle.encoding.specs.Field.{numberOf, stepOf, stepAt}
+use Rattle.field.specs.Varint.{varintFrom, varintAt}
+use Rattle.field.specs.Field.{numberOf}
+use Rattle.encoding.specs.Check.{stepOf, stepAt}
 use Rattle.encoding.specs.Check.{checkOf}
 use Rattle.encoding.specs.Items as i
-use Rattle.encoding.specs.declared.varint.Varint.{Varint}
-use Rattle.encoding.specs.declared.varint.Varint.the-variants.{Value}
+use Rattle.field.specs.declared.varint.Varint.{Varint}
+use Rattle.field.specs.declared.varint.Varint.the-variants.{Value}
 use Rattle.encoding.specs.declared.check.Step.the-variants as step
 use Rattle.encoding.specs.declared.check.Checked.the-variants as checked
 use Rattle.encoding.proofs.Steps.{Read, read}

@@ -11,18 +11,19 @@ use lib.Dec.{leb, eqb}
 use borrow.Author.Tests.{lt-ltb, le-ltb, eq-eqb, ne-eqb, eqb-true}
 use Rattle.laws.specs.Base.{pick, part}
 use Rattle.laws.proofs.Order.{lt-or-le, picked}
-use Rattle.encoding.specs.Varint.{varintAt}
-use Rattle.encoding.specs.Schema.{kindOf, takes, message, InfoMessage}
-use Rattle.encoding.specs.Field.{tagAt, partOf, payloadAt, stepOf, stepFrom, stepAt}
+use Rattle.field.specs.Varint.{varintAt}
+use Rattle.field.specs.Schema.{kindOf, takes, message, InfoMessage}
+use Rattle.field.specs.Field.{tagAt, partOf, payloadAt}
+use Rattle.encoding.specs.Check.{stepOf, stepFrom, stepAt}
 use Rattle.encoding.specs.Check.{before, checkOf}
 use Rattle.encoding.specs.Fields.{among, fieldOf, fieldFrom, fieldAt, onField, fieldsAt}
 use Rattle.encoding.specs.Items.{Item, bytes, itemOf, items, lastFrom}
-use Rattle.encoding.specs.declared.varint.Varint.{Varint}
-use Rattle.encoding.specs.declared.varint.Varint.the-variants.{Value, PastEnd, TooLong}
-use Rattle.encoding.specs.declared.tag.Tag.{Tag}
-use Rattle.encoding.specs.declared.tag.Tag.the-variants as tag
-use Rattle.encoding.specs.declared.payload.Payload.{Payload}
-use Rattle.encoding.specs.declared.payload.Payload.the-variants as payload
+use Rattle.field.specs.declared.varint.Varint.{Varint}
+use Rattle.field.specs.declared.varint.Varint.the-variants.{Value, PastEnd, TooLong}
+use Rattle.field.specs.declared.tag.Tag.{Tag}
+use Rattle.field.specs.declared.tag.Tag.the-variants as tag
+use Rattle.field.specs.declared.payload.Payload.{Payload}
+use Rattle.field.specs.declared.payload.Payload.the-variants as payload
 use Rattle.encoding.specs.declared.check.Step.the-variants as step
 use Rattle.encoding.specs.declared.check.Checked.{Checked}
 use Rattle.encoding.specs.declared.check.Checked.the-variants as checked

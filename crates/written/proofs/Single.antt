@@ -11,22 +11,23 @@ use lib.Dec.{leb}
 use borrow.Author.Tests.{lt-ltb, le-ltb, le-leb, ne-eqb}
 use Rattle.laws.specs.Base.{pick, part}
 use Rattle.laws.proofs.Order.{lt-or-le}
-use Rattle.encoding.specs.Varint as r
-use Rattle.encoding.specs.Varint.{varintAt}
-use Rattle.encoding.specs.Schema.{kindOf, takes}
-use Rattle.encoding.specs.Field.{tagFits, tagOf, tagAt, numberOf, partOf, payloadAt, stepOf, stepFrom, stepAt}
+use Rattle.field.specs.Varint as r
+use Rattle.field.specs.Varint.{varintAt}
+use Rattle.field.specs.Schema.{kindOf, takes}
+use Rattle.field.specs.Field.{tagFits, tagOf, tagAt, numberOf, partOf, payloadAt}
+use Rattle.encoding.specs.Check.{stepOf, stepFrom, stepAt}
 use Rattle.encoding.specs.Check.{checkOf}
 use Rattle.encoding.specs.Fields.{fieldOf, fieldFrom, fieldAt, onField, fieldsAt}
 use Rattle.encoding.specs.Items.{number, bytes, itemOf, items}
-use Rattle.encoding.specs.declared.varint.Varint.the-variants.{Value}
-use Rattle.encoding.specs.declared.tag.Tag.the-variants as tag
-use Rattle.encoding.specs.declared.payload.Payload.{Payload}
-use Rattle.encoding.specs.declared.payload.Payload.the-variants as payload
+use Rattle.field.specs.declared.varint.Varint.the-variants.{Value}
+use Rattle.field.specs.declared.tag.Tag.the-variants as tag
+use Rattle.field.specs.declared.payload.Payload.{Payload}
+use Rattle.field.specs.declared.payload.Payload.the-variants as payload
 use Rattle.encoding.specs.declared.check.Step.the-variants as step
 use Rattle.encoding.specs.declared.check.Checked.the-variants as checked
 use Rattle.encoding.specs.declared.fields.Field.{Field}
 use Rattle.encoding.specs.declared.fields.Field.the-variants as field
-use Rattle.encoding.proofs.Varints.{last-fits, ends, goes-on, lim}
+use Rattle.field.proofs.Varints.{last-fits, ends, goes-on, lim}
 use Rattle.encoding.proofs.Steps.{TagRead, tag-at}
 use Rattle.encoding.proofs.Follow.{follow, none}
 use Rattle.written.specs.Pieces as w

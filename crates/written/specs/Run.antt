@@ -7,14 +7,14 @@ use mathlib.Core.Bool.{Bool}
 use lib.ListN.{length}
 use lib.Dec.{ltb, eqb}
 use Rattle.laws.specs.Base.{pick, part}
-use Rattle.encoding.specs.Schema.{InfoMessage}
-use Rattle.encoding.specs.Field.{tagAt, payloadAt}
+use Rattle.field.specs.Schema.{InfoMessage}
+use Rattle.field.specs.Field.{tagAt, payloadAt}
 use Rattle.encoding.specs.Check.{before, checkOf}
 use Rattle.encoding.specs.Items.{items}
-use Rattle.encoding.specs.declared.tag.Tag.{Tag}
-use Rattle.encoding.specs.declared.tag.Tag.the-variants as tag
-use Rattle.encoding.specs.declared.payload.Payload.{Payload}
-use Rattle.encoding.specs.declared.payload.Payload.the-variants as payload
+use Rattle.field.specs.declared.tag.Tag.{Tag}
+use Rattle.field.specs.declared.tag.Tag.the-variants as tag
+use Rattle.field.specs.declared.payload.Payload.{Payload}
+use Rattle.field.specs.declared.payload.Payload.the-variants as payload
 use Rattle.encoding.specs.declared.check.Checked.{Checked}
 use Rattle.encoding.specs.declared.check.Checked.the-variants as checked
 use Rattle.message.specs.Message.{entries}

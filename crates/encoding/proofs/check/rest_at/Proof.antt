@@ -1,5 +1,5 @@
 use mathlib.Core.Path.{sym, _∙_}
-use Rattle.encoding.specs.Field.{stepFrom}
+use Rattle.encoding.specs.Check.{stepFrom}
 use borrow.Author.Needs.{needs}
 use Rattle.encoding.proofs.check.rest_at.Statement.{statement}
 use Rattle.encoding.proofs.check.rest_at.Tie as tie

@@ -1,6 +1,6 @@
 use mathlib.Core.Path.{sym, _∙_}
 use borrow.Author.Tests.{ne-eqb, eq-eqb}
-use Rattle.encoding.specs.Field.{stepAt, stepFrom}
+use Rattle.encoding.specs.Check.{stepAt, stepFrom}
 use borrow.Author.Needs.{needs}
 use Rattle.encoding.proofs.check.step_at.Statement.{statement}
 use Rattle.encoding.proofs.check.step_at.Tie as tie

@@ -1,5 +1,5 @@
 use borrow.Author.Tests.{le-leb, lt-leb}
-use Rattle.encoding.specs.Field.{stepOf}
+use Rattle.encoding.specs.Check.{stepOf}
 use borrow.Author.Needs.{needs}
 use Rattle.encoding.proofs.check.step_of.Statement.{statement}
 use Rattle.encoding.proofs.check.step_of.Tie as tie

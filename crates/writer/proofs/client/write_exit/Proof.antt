@@ -1,7 +1,7 @@
 use lib.Dec.{leb}
 use Rattle.written.specs.Draft.{flag}
 use Rattle.writer.proofs.Members.{member-small, both-same}
-use Rattle.writer.proofs.Outcomes.{same-outcome, same-wrapped}
+use Rattle.layout.proofs.Outcomes.{same-outcome, same-wrapped}
 use Rattle.pieces.specs.Put.{cover, around}
 use Rattle.written.specs.Pieces.{encode}
 use Rattle.laws.proofs.Order.{both-true}

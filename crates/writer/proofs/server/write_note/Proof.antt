@@ -1,4 +1,4 @@
-use Rattle.writer.proofs.Outcomes.{same-outcome, same-note}
+use Rattle.layout.proofs.Outcomes.{same-outcome, same-note}
 use Rattle.writer.proofs.Members.{note-member}
 use Rattle.pieces.specs.Put.{cover, around}
 use Rattle.written.specs.Pieces.{encode}
