@@ -14,7 +14,9 @@
  *
  * Refusals are document 01's numbers (README.md has the table): 1 frame or message too long, 2 varint,
  * 3 length past the end, 4 bad tag or wire type, 5 known field with another wire type, 6 no member, 7 out
- * of range, 12 no room in the buffer that was lent. 0 says: no refusal.
+ * of range, 8 required entry missing, 9 not this state's turn, 10 total too great, 11 delay zero at a restart
+ * point, 12 no room in the buffer or area that was lent, 13 restart of a finished file, 14 no beginning has
+ * the resume point, 15 no valid file or wrong lengths. 0 says: no refusal.
  */
 #ifndef SUDOLOG_H
 #define SUDOLOG_H
@@ -52,6 +54,13 @@ enum sudolog_frame {
     SUDOLOG_FRAME_WHOLE = 0,   /* four bytes of length, then the whole message */
     SUDOLOG_FRAME_REFUSED = 1, /* refusal 1: the length is above 2,097,152 */
     SUDOLOG_FRAME_WAIT = 2     /* too few bytes to tell yet */
+};
+
+/* What the used bytes of an area are: answers of sudolog_check_file. */
+enum sudolog_file {
+    SUDOLOG_FILE_UNFINISHED = 0, /* a valid file without an exit */
+    SUDOLOG_FILE_FINISHED = 1,   /* a valid file with its exit */
+    SUDOLOG_FILE_REFUSED = 15    /* no valid file; or a length beyond the area, or an area beyond 1 GiB */
 };
 
 /* ---- exported by the library ---- */
@@ -154,6 +163,39 @@ uint64_t sudolog_write_entry_strings(uint64_t member, const uint8_t *key, size_t
                                      const size_t *ends, size_t ends_n, uint8_t framed, uint8_t *out, size_t room);
 uint64_t sudolog_write_entry_numbers(uint64_t member, const uint8_t *key, size_t key_n, const uint64_t *numbers, size_t numbers_n,
                                      uint8_t framed, uint8_t *out, size_t room);
+
+/* ---- the session ----
+ *
+ * A session is kept in 40 bytes that the caller lends to each call, five numbers of 8 bytes, most significant
+ * byte first:
+ *
+ *    0  the state: 0 new, 1 greeted, 2 logging, 3 events only, 4 closed; 8 more while the point of a restart stands
+ *    8  the used length of the area
+ *   16  the total: the sum of the delays of the records stored, in nanoseconds
+ *   24  the greatest total below it that a beginning of the file has, in nanoseconds
+ *   32  the point of the restart in nanoseconds; 0 where none stands
+ *
+ * Bytes that are no session (another length than 40, a state that is none, a number beyond its limit) answer
+ * as a closed session. The area is the bytes lent for the session's file, `used` how many of them the file has.
+ * The slices of one call must not overlap. */
+
+/* Keeps a new session in the 40 bytes: 0; or 12 where session_n is not 40, and then nothing is changed. */
+uint8_t sudolog_session_open(uint8_t *session, size_t session_n);
+
+/* Hands one message, without its frame's four bytes, to the session: 0, or its refusal. A refusal closes the
+ * session and leaves the area as it was. In `out` five numbers of 8 bytes, most significant byte first: the used
+ * length afterwards; the key that refusal 8 names (0 command, 1 runuser, 2 submithost, 3 submituser), otherwise
+ * 0; whether the answer has a commit point, 1 or 0; the point in nanoseconds, otherwise 0; the state that the
+ * session is in. Where `room` is below 40 the answer is 12 and nothing is done. A record that is stored costs
+ * time in its own length; a restart one pass over the file's record headers. */
+uint8_t sudolog_session_message(uint8_t *session, size_t session_n, const uint8_t *message, size_t n,
+                                uint8_t *area, size_t area_n, size_t used, uint8_t *out, size_t room);
+
+/* The commit point of the host's tick, in nanoseconds; UINT64_MAX where there is none. It changes nothing. */
+uint64_t sudolog_session_tick(const uint8_t *session, size_t session_n);
+
+/* What the used bytes of an area are as a file: one of enum sudolog_file. One pass over the record headers. */
+uint8_t sudolog_check_file(const uint8_t *area, size_t area_n, size_t used);
 
 #ifdef __cplusplus
 }
@@ -728,6 +770,93 @@ static inline uint8_t *sudolog_lend_room(uint8_t *out)
 {
     static uint8_t none = 0;
     return out != NULL ? out : &none;
+}
+
+/* ---- the session, with its 40 bytes in a struct ----
+ *
+ *   struct sudolog_session session = sudolog_new_session();
+ *   struct sudolog_answer answer;
+ *   size_t used = 0;
+ *   for each whole message (m, n) of the connection {
+ *       int refusal = sudolog_take_message(&session, m, n, area, sizeof area, used, &answer);
+ *       used = answer.used;
+ *       if (answer.has_point)
+ *           send a commit point of answer.point;
+ *       if (refusal != 0 || answer.state == SUDOLOG_STATE_CLOSED)
+ *           hang up;
+ *   }
+ *   on a timer: if (sudolog_tick(&session, &point)) send a commit point of point;
+ *
+ * A new session begins each connection; the area and its used length stay from one connection to the next. */
+
+enum sudolog_state {
+    SUDOLOG_STATE_NEW = 0,
+    SUDOLOG_STATE_GREETED = 1,
+    SUDOLOG_STATE_LOGGING = 2,
+    SUDOLOG_STATE_EVENTS_ONLY = 3,
+    SUDOLOG_STATE_CLOSED = 4
+};
+
+struct sudolog_session {
+    uint8_t bytes[40];
+};
+
+/* What sudolog_take_message answers beside the refusal. */
+struct sudolog_answer {
+    int refusal;               /* 0 for none */
+    int key;                   /* of refusal 8: 0 command, 1 runuser, 2 submithost, 3 submituser */
+    bool has_point;            /* only an exit that was stored has a commit point */
+    struct sudolog_time point; /* 0 s 0 ns where it has none */
+    enum sudolog_state state;  /* the state afterwards */
+    size_t used;               /* the area's used length afterwards */
+};
+
+/* Nanoseconds as a TimeSpec. */
+static inline struct sudolog_time sudolog_time_of(uint64_t nanoseconds)
+{
+    struct sudolog_time time;
+    time.seconds = (int64_t)(nanoseconds / 1000000000);
+    time.nanoseconds = (int32_t)(nanoseconds % 1000000000);
+    return time;
+}
+
+static inline struct sudolog_session sudolog_new_session(void)
+{
+    struct sudolog_session session;
+    sudolog_session_open(session.bytes, sizeof session.bytes);
+    return session;
+}
+
+/* The 40 bytes that sudolog_session_message answers with, as a struct. */
+static inline void sudolog_get_answer(int refusal, const uint8_t *out, struct sudolog_answer *answer)
+{
+    answer->refusal = refusal;
+    answer->used = (size_t)sudolog_big_endian(out);
+    answer->key = (int)sudolog_big_endian(out + 8);
+    answer->has_point = sudolog_big_endian(out + 16) != 0;
+    answer->point = sudolog_time_of(sudolog_big_endian(out + 24));
+    answer->state = (enum sudolog_state)sudolog_big_endian(out + 32);
+}
+
+/* Hands a message to the session: its refusal, 0 for none. The answer is filled in either way. */
+static inline int sudolog_take_message(struct sudolog_session *session, const uint8_t *m, size_t n,
+                                       uint8_t *area, size_t area_n, size_t used, struct sudolog_answer *answer)
+{
+    uint8_t out[40];
+    int refusal = sudolog_session_message(session->bytes, sizeof session->bytes, sudolog_lend(m), n,
+                                          sudolog_lend_room(area), area_n, used, out, sizeof out);
+    sudolog_get_answer(refusal, out, answer);
+    return refusal;
+}
+
+/* The host's tick: whether there is a commit point to send, and the point. */
+static inline bool sudolog_tick(const struct sudolog_session *session, struct sudolog_time *point)
+{
+    uint64_t at = sudolog_session_tick(session->bytes, sizeof session->bytes);
+    if (at == UINT64_MAX)
+        return false;
+    *point = sudolog_time_of(at);
+    return true;
 }
 
 #endif

@@ -16,8 +16,11 @@
  *                     the empty slice and the empty list are the empty word. Answered by {"written":HEX};
  *                     it is asked twice, over different bytes, and "touched":true is added where a byte
  *                     beyond those written was changed, "differs":true where the two answers do.
+ *
+ * driver_sessions.c has the requests about areas, sessions and files.
  */
 #define _DEFAULT_SOURCE
+#include "driver.h"
 #include "sudolog.h"
 
 #include <inttypes.h>
@@ -341,12 +344,7 @@ static const struct {
     { "TimeSpec", answer_time },
 };
 
-struct bytes {
-    uint8_t *m; /* NULL where n is 0: the header takes that */
-    size_t n;
-};
-
-static void *memory(size_t n)
+void *memory(size_t n)
 {
     void *m = malloc(n);
     if (m == NULL)
@@ -414,7 +412,7 @@ static unsigned digit(char c)
 }
 
 /* Each request's bytes get memory of exactly their size, so that a memory checker sees a read beyond. */
-static struct bytes from_hex(const char *hex)
+struct bytes from_hex(const char *hex)
 {
     struct bytes out = { NULL, strlen(hex) / 2 };
     size_t i;
@@ -512,7 +510,7 @@ static const struct {
 };
 
 /* -1 is the 64 bits of -1. */
-static uint64_t from_decimal(const char *word)
+uint64_t from_decimal(const char *word)
 {
     return word[0] == '-' ? -strtoull(word + 1, NULL, 10) : strtoull(word, NULL, 10);
 }
@@ -662,6 +660,8 @@ static bool answer_line(char *line)
     bool known;
     if (strcmp(ask, "write") == 0)
         return answer_write(line);
+    if (answer_session(ask, line))
+        return true;
     name = named ? strsep(&line, " ") : "";
     in = from_hex(line != NULL ? line : "");
     known = answer_slice(ask, name, in);

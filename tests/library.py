@@ -1,4 +1,4 @@
-"""The library as the test scripts reach it: tests/driver.c, built and asked line by line."""
+"""The library as the test scripts reach it: tests/driver.c and driver_sessions.c, built and asked line by line."""
 
 import json
 import os
@@ -7,7 +7,8 @@ import sys
 
 ROOT = os.path.dirname(os.path.dirname(os.path.abspath(__file__)))
 DRIVER = os.path.join(ROOT, "target", "tests", "driver")
-SOURCES = [os.path.join(ROOT, "tests", "driver.c"), os.path.join(ROOT, "include", "sudolog.h")]
+SOURCES = [os.path.join(ROOT, "tests", name) for name in ("driver.c", "driver_sessions.c")]
+HEADERS = [os.path.join(ROOT, "tests", "driver.h"), os.path.join(ROOT, "include", "sudolog.h")]
 MADE = os.path.join(ROOT, "target", "staticlib", "libsudolog.a")
 
 HELP = """The library is target/staticlib/libsudolog.a (rt staticlib sudolog), or the archive
@@ -27,12 +28,12 @@ def build():
     lib, usual = archive()
     if not os.path.exists(lib):
         sys.exit(f"no library at {lib}: run rt staticlib sudolog first, or set SUDOLOG_LIB")
-    newest = max(os.path.getmtime(part) for part in SOURCES + [lib])
+    newest = max(os.path.getmtime(part) for part in SOURCES + HEADERS + [lib])
     if usual and os.path.exists(DRIVER) and os.path.getmtime(DRIVER) > newest:
         return
     os.makedirs(os.path.dirname(DRIVER), exist_ok=True)
     flags = ["-std=c11", "-O2", "-Wall", "-Wextra", "-Werror", "-I", os.path.join(ROOT, "include")]
-    subprocess.run(["gcc", *flags, "-o", DRIVER, SOURCES[0], lib], check=True)
+    subprocess.run(["gcc", *flags, "-o", DRIVER, *SOURCES, lib], check=True)
 
 
 class Library:
