@@ -1,0 +1,304 @@
+/*
+ * session.c: a host in C that runs sessions over an area, by include/sudolog.h. Prints a line for each check that
+ * fails and at the end 'N passed, M failed'; exit status 1 on a failure.
+ *
+ * The marked examples 7 to 10 of the scope document; the 40 bytes of a session, and bytes that are none; what a
+ * refusal leaves as it was; and that a restart and a file check touch no data bytes.
+ */
+#define _DEFAULT_SOURCE
+#include "sudolog.h"
+
+#include <stdio.h>
+#include <stdlib.h>
+#include <string.h>
+#include <sys/mman.h>
+
+static int passed, failed;
+
+static void check(bool holds, const char *what, const char *where, int line)
+{
+    if (holds) {
+        passed++;
+        return;
+    }
+    failed++;
+    printf("session.c:%d: %s: %s\n", line, where, what);
+}
+
+#define CHECK(WHAT) check((WHAT), #WHAT, __func__, __LINE__)
+
+enum { AREA = 4096 };
+
+/* A host: one session over one area, and the message that it makes next. */
+struct host {
+    struct sudolog_session session;
+    uint8_t area[AREA];
+    size_t used;
+    uint8_t message[512];
+    size_t n;
+    struct sudolog_answer answer;
+};
+
+static int hand_over(struct host *h)
+{
+    int refusal = sudolog_take_message(&h->session, h->message, h->n, h->area, sizeof h->area, h->used, &h->answer);
+    h->used = h->answer.used;
+    return refusal;
+}
+
+static void made(struct host *h, uint64_t written)
+{
+    CHECK(sudolog_written_refusal(written) == 0);
+    h->n = sudolog_written_size(written);
+}
+
+static void make_accept(struct host *h, bool io)
+{
+    static const char *const keys[] = { "command", "runuser", "submithost", "submituser" };
+    uint8_t run[256];
+    size_t run_n = 0, i;
+    for (i = 0; i < 4; i++)
+        CHECK(sudolog_add_written(sudolog_write_entry_string(SUDOLOG_ENTRY_OF_ACCEPT, sudolog_text(keys[i]),
+                                                             strlen(keys[i]), sudolog_text("x"), 1, 0, run + run_n,
+                                                             sizeof run - run_n),
+                                  &run_n)
+              == 0);
+    made(h, sudolog_write_accept(SUDOLOG_FROM_CLIENT_ACCEPT, 1700000000, 0, run, run_n, io, 0, h->message,
+                                 sizeof h->message));
+}
+
+static int accept_io(struct host *h)
+{
+    make_accept(h, true);
+    return hand_over(h);
+}
+
+static int ttyout(struct host *h, uint64_t seconds)
+{
+    made(h, sudolog_write_io(SUDOLOG_FROM_CLIENT_TTYOUT, seconds, 0, sudolog_text("hi"), 2, 0, h->message,
+                             sizeof h->message));
+    return hand_over(h);
+}
+
+static int restart(struct host *h, uint64_t seconds)
+{
+    made(h, sudolog_write_restart(SUDOLOG_FROM_CLIENT_RESTART, sudolog_text("a"), 1, seconds, 0, 0, h->message,
+                                  sizeof h->message));
+    return hand_over(h);
+}
+
+static int leave(struct host *h)
+{
+    made(h, sudolog_write_exit(SUDOLOG_FROM_CLIENT_EXIT, 9, 0, 0, 0, sudolog_text(""), 0, sudolog_text(""), 0, 0,
+                               h->message, sizeof h->message));
+    return hand_over(h);
+}
+
+/* Does a tick give this many seconds, -1 for no point. */
+static bool ticks(const struct host *h, int64_t seconds)
+{
+    struct sudolog_time point = { -2, -2 };
+    if (!sudolog_tick(&h->session, &point))
+        return seconds == -1 && point.seconds == -2;
+    return point.seconds == seconds && point.nanoseconds == 0;
+}
+
+static bool has_point(const struct host *h, int64_t seconds)
+{
+    return h->answer.has_point && h->answer.point.seconds == seconds && h->answer.point.nanoseconds == 0;
+}
+
+static struct host opened(void)
+{
+    struct host h;
+    memset(&h, 0xA5, sizeof h);
+    h.session = sudolog_new_session();
+    h.used = 0;
+    return h;
+}
+
+/* A new connection over the area as it was left. */
+static struct host reconnected(const struct host *before)
+{
+    struct host h = *before;
+    h.session = sudolog_new_session();
+    return h;
+}
+
+/* Example 7's unfinished file. */
+static struct host four_records(void)
+{
+    struct host h = opened();
+    CHECK(accept_io(&h) == 0);
+    CHECK(ttyout(&h, 1) == 0 && ticks(&h, 0));
+    CHECK(ttyout(&h, 0) == 0 && ticks(&h, 0));
+    CHECK(ttyout(&h, 0) == 0 && ticks(&h, 0));
+    CHECK(ttyout(&h, 2) == 0 && ticks(&h, 1));
+    return h;
+}
+
+static void test_examples(void)
+{
+    struct host h = four_records(), again = reconnected(&h);
+    CHECK(sudolog_check_file(h.area, AREA, h.used) == SUDOLOG_FILE_UNFINISHED);
+    CHECK(leave(&h) == 0 && has_point(&h, 3) && h.answer.state == SUDOLOG_STATE_CLOSED && ticks(&h, -1));
+    CHECK(sudolog_check_file(h.area, AREA, h.used) == SUDOLOG_FILE_FINISHED);
+    CHECK(restart(&again, 1) == 0 && again.answer.state == SUDOLOG_STATE_LOGGING && ticks(&again, 1));
+    CHECK(again.used == h.used - 13 - 13); /* the last ttyout and the exit, 13 bytes each */
+    CHECK(ttyout(&again, 2) == 0 && ticks(&again, 1));
+    again = four_records();
+    again = reconnected(&again);
+    CHECK(restart(&again, 2) == 14 && again.answer.state == SUDOLOG_STATE_CLOSED);
+    again = four_records();
+    again = reconnected(&again);
+    CHECK(restart(&again, 1) == 0);
+    CHECK(ttyout(&again, 0) == 11);
+    h = reconnected(&h);
+    CHECK(restart(&h, 3) == 13);
+    h = opened();
+    CHECK(accept_io(&h) == 0 && ticks(&h, -1));
+    CHECK(leave(&h) == 0 && has_point(&h, 0));
+}
+
+/* The layout that the header tells. */
+static void test_layout(void)
+{
+    struct host h = opened();
+    const uint8_t *b = h.session.bytes;
+    CHECK(sizeof h.session.bytes == 40);
+    CHECK(sudolog_big_endian(b) == SUDOLOG_STATE_NEW && sudolog_big_endian(b + 32) == 0);
+    h = four_records();
+    CHECK(sudolog_big_endian(b) == SUDOLOG_STATE_LOGGING && sudolog_big_endian(b + 8) == h.used);
+    CHECK(sudolog_big_endian(b + 16) == 3000000000 && sudolog_big_endian(b + 24) == 1000000000);
+    h = reconnected(&h);
+    CHECK(restart(&h, 1) == 0);
+    CHECK(sudolog_big_endian(b) == SUDOLOG_STATE_LOGGING + 8 && sudolog_big_endian(b + 8) == h.used);
+    CHECK(sudolog_big_endian(b + 16) == 1000000000 && sudolog_big_endian(b + 24) == 0);
+    CHECK(sudolog_big_endian(b + 32) == 1000000000);
+}
+
+/* A host whose session's byte is changed answers as a closed one. */
+static void test_no_session(size_t at, uint8_t byte)
+{
+    struct host h = four_records(), before;
+    h.session.bytes[at] = byte;
+    before = h;
+    CHECK(ticks(&h, -1));
+    CHECK(ttyout(&h, 1) == 9 && h.answer.state == SUDOLOG_STATE_CLOSED && h.used == before.used);
+    CHECK(memcmp(h.area, before.area, AREA) == 0);
+    CHECK(sudolog_big_endian(h.session.bytes) == SUDOLOG_STATE_CLOSED);
+}
+
+static void test_no_sessions(void)
+{
+    test_no_session(0, 1);   /* a state beyond 2^56 */
+    test_no_session(7, 5);   /* no state */
+    test_no_session(7, 13);  /* no state with a point */
+    test_no_session(12, 64); /* a used length beyond 1 GiB: 2^30 and what stands there */
+    test_no_session(16, 60); /* a total of 60 * 2^56 ns and more: seconds beyond 32 bits */
+    test_no_session(24, 60);
+    test_no_session(39, 1);  /* a point where none stands */
+}
+
+/* Slices of another length than 40 hold no session, and stay as they are. */
+static void test_lengths(void)
+{
+    uint8_t slice[64], out[64];
+    size_t n;
+    struct host h = opened();
+    make_accept(&h, true);
+    for (n = 0; n <= sizeof slice; n++) {
+        memset(slice, 0, sizeof slice);
+        memset(out, 0xEE, sizeof out);
+        CHECK(sudolog_session_open(slice, n) == (n == 40 ? 0 : 12));
+        CHECK(sudolog_session_message(slice, n, h.message, h.n, h.area, AREA, 0, out, sizeof out) == (n == 40 ? 0 : 9));
+        CHECK(sudolog_big_endian(out) == (n == 40 ? 11 + h.n - 2 : 0));
+        CHECK(out[40] == 0xEE && out[63] == 0xEE);
+        CHECK((slice[7] == SUDOLOG_STATE_LOGGING) == (n == 40));
+    }
+    for (n = 0; n < 40; n++) {
+        struct host before;
+        h = opened();
+        make_accept(&h, true);
+        before = h;
+        memset(out, 0xEE, sizeof out);
+        CHECK(sudolog_session_message(h.session.bytes, 40, h.message, h.n, h.area, AREA, 0, out, n) == 12);
+        CHECK(memcmp(&h, &before, sizeof h) == 0 && out[0] == 0xEE);
+    }
+}
+
+/* A refusal leaves every byte of the area and the used length, and closes the session. */
+static void test_refusals(void)
+{
+    struct host h = four_records(), before = h;
+    CHECK(accept_io(&h) == 9 && h.answer.state == SUDOLOG_STATE_CLOSED);
+    CHECK(h.used == before.used && memcmp(h.area, before.area, AREA) == 0);
+    h = before;
+    h.used -= 1;
+    CHECK(ttyout(&h, 1) == 15 && h.used == before.used - 1 && memcmp(h.area, before.area, AREA) == 0);
+    h = opened();
+    before = h;
+    h.used = 1;
+    CHECK(accept_io(&h) == 15 && h.used == 1 && memcmp(h.area, before.area, AREA) == 0);
+    h = opened();
+    make_accept(&h, false);
+    CHECK(hand_over(&h) == 0 && h.answer.state == SUDOLOG_STATE_EVENTS_ONLY && h.used == 0);
+    CHECK(memcmp(h.area, before.area, AREA) == 0 && leave(&h) == 0 && !h.answer.has_point);
+    h = opened();
+    made(&h, sudolog_write_accept(SUDOLOG_FROM_CLIENT_ACCEPT, 1, 0, sudolog_text(""), 0, 1, 0, h.message,
+                                  sizeof h.message));
+    CHECK(hand_over(&h) == 8 && h.answer.key == 0);
+}
+
+/* A file of two I/O records of 2 MiB whose data lie in pages that can't be read: restart and check look at
+ * headers alone. */
+static void test_headers_alone(void)
+{
+    enum { DATA = 2097152, PAGE = 4096, SIZE = 3 * DATA };
+    uint8_t *area = (uint8_t *)mmap(NULL, SIZE, PROT_READ | PROT_WRITE, MAP_PRIVATE | MAP_ANONYMOUS, -1, 0);
+    uint8_t *data = (uint8_t *)malloc(DATA), *message = (uint8_t *)malloc(DATA + 64);
+    struct sudolog_session session = sudolog_new_session();
+    struct sudolog_answer answer;
+    struct host h = opened();
+    size_t used, ends[3], i;
+    if (area == MAP_FAILED || data == NULL || message == NULL)
+        exit(2);
+    make_accept(&h, true);
+    CHECK(sudolog_take_message(&session, h.message, h.n, area, SIZE, 0, &answer) == 0);
+    ends[0] = answer.used;
+    memset(data, 'x', DATA);
+    for (i = 0; i < 2; i++) {
+        size_t n = DATA - 64; /* the message around it is at most 2,097,152 bytes */
+        uint64_t written = sudolog_write_io(SUDOLOG_FROM_CLIENT_TTYOUT, 1, 0, data, n, 0, message, DATA + 64);
+        CHECK(sudolog_written_refusal(written) == 0);
+        CHECK(sudolog_take_message(&session, message, sudolog_written_size(written), area, SIZE, answer.used, &answer)
+              == 0);
+        ends[i + 1] = answer.used;
+    }
+    used = answer.used;
+    for (i = 0; i < 2; i++) {
+        size_t from = (ends[i] + 11 + PAGE - 1) / PAGE * PAGE, to = ends[i + 1] / PAGE * PAGE;
+        if (mprotect(area + from, to - from, PROT_NONE) != 0)
+            exit(2);
+    }
+    CHECK(sudolog_check_file(area, SIZE, used) == SUDOLOG_FILE_UNFINISHED);
+    session = sudolog_new_session();
+    made(&h, sudolog_write_restart(SUDOLOG_FROM_CLIENT_RESTART, sudolog_text("a"), 1, 1, 0, 0, h.message,
+                                   sizeof h.message));
+    CHECK(sudolog_take_message(&session, h.message, h.n, area, SIZE, used, &answer) == 0 && answer.used == ends[1]);
+    munmap(area, SIZE);
+    free(data);
+    free(message);
+}
+
+int main(void)
+{
+    test_examples();
+    test_layout();
+    test_no_sessions();
+    test_lengths();
+    test_refusals();
+    test_headers_alone();
+    printf("%d passed, %d failed\n", passed, failed);
+    return failed != 0;
+}
