@@ -105,10 +105,6 @@ bytes-back s at b h =
     split s at h
     ∙ ap (λ (l : List ℕ). l ++ drop (at + 8) s) (sym (apart _ _ _ _ _ _ _ _ (b at) (b (at + 1)) (b (at + 2)) (b (at + 3)) (b (at + 4)) (b (at + 5)) (b (at + 6)) (b (at + 7))))
 
-pub number-small : (s : List ℕ) (at : ℕ) → Bytes s → numberAt s at < 18446744073709551616
-unfolding numberAt
-number-small s at b = omega (arith, b at, b (at + 1), b (at + 2), b (at + 3), b (at + 4), b (at + 5), b (at + 6), b (at + 7))
-
 -- 40 bytes are those of the five numbers that they are
 pub five-back : (s : List ℕ) → Bytes s → length s ≡ 40
     → s ≡ eights (numberAt s 0 ∷ numberAt s 8 ∷ numberAt s 16 ∷ numberAt s 24 ∷ numberAt s 32 ∷ [])
