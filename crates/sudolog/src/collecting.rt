@@ -14,7 +14,6 @@ ghost use mathlib.Core.Path.{_≡_};
 ghost use lib.ListN.{length};
 ghost use lib.Dec.{eqb};
 ghost use Rattle.laws.specs.Base.{pick};
-ghost use Rattle.numbers.specs.Eight.{laid};
 ghost use Rattle.session.specs.Step as st;
 ghost use Rattle.session.specs.Answer.{fileCheck};
 ghost use Rattle.saved.specs.Saved.{sessionOf, kept};
@@ -72,7 +71,14 @@ pub extern "C" fn sudolog_session_message(
     let point = a.point;
     let state = session.state;
     save(slice, session);
-    lay_five(out, a.used as u64, a.key as u64, has_point(point), point_number(point), state_number(state));
+    lay_five(
+        out,
+        a.used as u64,
+        a.key as u64,
+        has_point(point),
+        point_number(point),
+        state_number(state),
+    );
     a.refusal
 }
 
