@@ -1,7 +1,7 @@
 -- Numbers as bytes in a buffer.
-use Prim.Native.Nat.{ℕ, _*_, _/_, _%_}
+use Prim.Native.Nat.{ℕ, _+_, _*_, _/_, _%_}
 use mathlib.Core.List.{List, [], _∷_, _++_}
-use lib.ListN.{length}
+use lib.ListN.{length, getD}
 use lib.Dec.{leb}
 use Rattle.laws.specs.Base.{pick, splice}
 
@@ -18,3 +18,10 @@ eights (v ∷ vs) = eight v ++ eights vs
 -- a buffer with numbers laid at its start; as it was where they have no room
 unfoldable pub laid : List ℕ → List ℕ → List ℕ
 laid vs out = pick (leb (8 * length vs) (length out)) (splice out 0 (eights vs)) out
+
+-- the number that the eight bytes from a place on are, most significant first
+unfoldable pub numberAt : List ℕ → ℕ → ℕ
+numberAt s at =
+    getD s at 0 * 72057594037927936 + getD s (at + 1) 0 * 281474976710656 + getD s (at + 2) 0 * 1099511627776
+    + getD s (at + 3) 0 * 4294967296 + getD s (at + 4) 0 * 16777216 + getD s (at + 5) 0 * 65536 + getD s (at + 6) 0 * 256
+    + getD s (at + 7) 0

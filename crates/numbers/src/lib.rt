@@ -1,11 +1,12 @@
-// Numbers laid into a lent buffer, eight bytes each, most significant first: how an answer of several numbers is given to C.
+// Numbers laid into a lent buffer, eight bytes each, most significant first, and read again: how several numbers go to C and back.
+use laws::wide;
 ghost use mathlib.Core.Path.{_≡_};
 ghost use mathlib.Core.List.{[], _∷_};
-ghost use Prim.Native.Nat.{_+_, _≤_};
-ghost use lib.ListN.{length};
+ghost use Prim.Native.Nat.{_+_, _≤_, _<_};
+ghost use lib.ListN.{length, getD};
 ghost use lib.Dec.{leb};
 ghost use Rattle.laws.specs.Base.{pick, splice};
-ghost use Rattle.numbers.specs.Eight.{eight, eights, laid};
+ghost use Rattle.numbers.specs.Eight.{eight, eights, laid, numberAt};
 
 // Lays a number into a buffer, eight bytes, most significant first.
 fn put(out: &mut [u8], at: usize, v: u64)
@@ -66,4 +67,40 @@ pub fn lay_five(out: &mut [u8], a: u64, b: u64, c: u64, d: u64, e: u64) -> bool
         return true;
     }
     false
+}
+
+// A byte as a number, with its bound.
+fn byte(s: &[u8], i: usize) -> u64
+    requires { ⌜ i < length (now s) ⌝ }
+    ensures { λ r. ⌜ (r ≡ getD (now (s .entry)) i 0) × (r < 256) ⌝ }
+{
+    wide(s[i])
+}
+
+// The number that eight bytes from a place on are.
+fn number_of(s: &[u8], at: usize) -> u64
+    requires { ⌜ at + 8 ≤ length (now s) ⌝ }
+    ensures { λ r. ⌜ r ≡ numberAt (now (s .entry)) at ⌝ }
+{
+    byte(s, at) * 72057594037927936
+        + byte(s, at + 1) * 281474976710656
+        + byte(s, at + 2) * 1099511627776
+        + byte(s, at + 3) * 4294967296
+        + byte(s, at + 4) * 16777216
+        + byte(s, at + 5) * 65536
+        + byte(s, at + 6) * 256
+        + byte(s, at + 7)
+}
+
+// The same where the bytes are there; 0 where they are not.
+pub fn number_at(s: &[u8], at: usize) -> u64
+    ensures { λ r. ⌜ r ≡ pick (leb (at + 8) (length (now (s .entry)))) (numberAt (now (s .entry)) at) 0 ⌝ }
+{
+    if s.len() < 8 {
+        return 0;
+    }
+    if s.len() - 8 < at {
+        return 0;
+    }
+    number_of(s, at)
 }

@@ -9,7 +9,7 @@ use Rattle.session.specs.Step.{opened, step}
 use Rattle.session.specs.declared.Session.{Session}
 use Rattle.session.specs.declared.Mark.{Mark}
 use Rattle.session.specs.declared.Mark.the-variants as mark
-use Rattle.saved.specs.Saved.{sessionBytes, sessionOf, closed, kept}
+use Rattle.saved.specs.Saved.{sessionBytes, sessionOf, closed}
 
 abbrev pub MarkSound : Mark → Type 0
 MarkSound mark.Nothing = Unit

@@ -14,7 +14,6 @@ ghost use mathlib.Core.Path.{_≡_};
 ghost use lib.ListN.{length};
 ghost use lib.Dec.{eqb};
 ghost use Rattle.laws.specs.Base.{pick};
-ghost use Rattle.numbers.specs.Eight.{laid};
 ghost use Rattle.session.specs.Step as st;
 ghost use Rattle.session.specs.Answer.{fileCheck};
 ghost use Rattle.saved.specs.Saved.{sessionOf, kept};

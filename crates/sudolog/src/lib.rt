@@ -1,5 +1,6 @@
 // What C calls: functions on numbers and byte slices alone. include/sudolog.h declares them and says what each one answers.
 // A `&[u8]` comes as a pointer and a length; a `&mut [u8]` is the buffer that the caller lends for more than one number.
+mod collecting;
 mod writing;
 
 use elements::Next;
