@@ -11,7 +11,7 @@ SOURCES = [os.path.join(ROOT, "tests", name) for name in ("driver.c", "driver_se
 HEADERS = [os.path.join(ROOT, "tests", "driver.h"), os.path.join(ROOT, "include", "sudolog.h")]
 MADE = os.path.join(ROOT, "target", "staticlib", "libsudolog.a")
 
-HELP = """The library is target/staticlib/libsudolog.a (rt staticlib sudolog), or the archive
+HELP = """The library is target/staticlib/libsudolog.a (./build), or the archive
 that SUDOLOG_LIB names."""
 
 
@@ -27,7 +27,7 @@ def build():
     SUDOLOG_LIB it is made each time: the driver does not tell which archive is in it."""
     lib, usual = archive()
     if not os.path.exists(lib):
-        sys.exit(f"no library at {lib}: run rt staticlib sudolog first, or set SUDOLOG_LIB")
+        sys.exit(f"no library at {lib}: run ./build first, or set SUDOLOG_LIB")
     newest = max(os.path.getmtime(part) for part in SOURCES + HEADERS + [lib])
     if usual and os.path.exists(DRIVER) and os.path.getmtime(DRIVER) > newest:
         return
