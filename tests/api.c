@@ -5,25 +5,11 @@
  * In the order of the header's parts: frames, the marked examples of the scope document, each message's
  * reader, lists, refusals and what they leave untouched; then the same of writing.
  */
+#include "check.h"
 #include "sudolog.h"
 
-#include <stdio.h>
 #include <stdlib.h>
 #include <string.h>
-
-static int passed, failed;
-
-static void check(bool holds, const char *what, const char *where, int line)
-{
-    if (holds) {
-        passed++;
-        return;
-    }
-    failed++;
-    printf("api.c:%d: %s: %s\n", line, where, what);
-}
-
-#define CHECK(WHAT) check((WHAT), #WHAT, __func__, __LINE__)
 
 struct slice {
     const uint8_t *m;
@@ -1258,6 +1244,5 @@ int main(void)
     longest_messages();
     refusals_in_order();
     written_accept_reads_back();
-    printf("%d passed, %d failed\n", passed, failed);
-    return failed == 0 ? 0 : 1;
+    return checked();
 }

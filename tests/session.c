@@ -6,26 +6,12 @@
  * refusal leaves as it was; and that a restart and a file check touch no data bytes.
  */
 #define _DEFAULT_SOURCE
+#include "check.h"
 #include "sudolog.h"
 
-#include <stdio.h>
 #include <stdlib.h>
 #include <string.h>
 #include <sys/mman.h>
-
-static int passed, failed;
-
-static void check(bool holds, const char *what, const char *where, int line)
-{
-    if (holds) {
-        passed++;
-        return;
-    }
-    failed++;
-    printf("session.c:%d: %s: %s\n", line, where, what);
-}
-
-#define CHECK(WHAT) check((WHAT), #WHAT, __func__, __LINE__)
 
 enum { AREA = 4096 };
 
@@ -299,6 +285,5 @@ int main(void)
     test_lengths();
     test_refusals();
     test_headers_alone();
-    printf("%d passed, %d failed\n", passed, failed);
-    return failed != 0;
+    return checked();
 }
