@@ -11,7 +11,8 @@ use lib.Seq.{length-take-le, getD-take, getD-append-add, paste, paste-suc, set-g
 use Rattle.laws.specs.Base.{splice}
 use Rattle.laws.proofs.Order.{lt-or-le}
 use borrow.Author.Tests.{le-leb, lt-leb}
-use Rattle.buffer.specs.Copy.{fits, copied, stored}
+use Rattle.buffer.specs.Copy.{fits, copied}
+use Rattle.block.specs.Block.{stored}
 
 -- a whole copy is a splice
 pub paste-splice : (d : List ℕ) (at : ℕ) (s : List ℕ) (n : ℕ) → n ≡ length s → paste d at s n ≡ splice d at s

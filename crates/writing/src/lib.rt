@@ -7,7 +7,7 @@ ghost use lib.ListN.{length};
 ghost use Rattle.message.specs.Signed.{bool};
 ghost use Rattle.writing.specs.Answer.{answerOf};
 ghost use Rattle.pieces.specs.Put.{stamp};
-ghost use Rattle.writer.specs.Fits.{acceptFits, clientHelloFits, endsFit, entryFits, entryStringsFits, exitFits, ioFits, noteFits, reportFits, restartFits, serverHelloFits, suspendFits, timeFits, windowFits};
+ghost use Rattle.fits.specs.Fits.{acceptFits, clientHelloFits, endsFit, entryFits, entryStringsFits, exitFits, ioFits, noteFits, reportFits, restartFits, serverHelloFits, suspendFits, timeFits, windowFits};
 ghost use Rattle.layout.specs.Wrote.{wrote};
 ghost use Rattle.written.specs.Draft.{acceptPieces, clientHelloPieces, cutAt, entryPieces, exitPieces, numberListPieces, numlistval, numval, reportPieces, restartPieces, serverHelloPieces, stringListPieces, strlistval, strval, timePieces, timedPieces, windowPieces, wrapped};
 ghost use Rattle.written.specs.Outcome.{buffer};
@@ -31,7 +31,7 @@ pub extern "C" fn sudolog_write_client_hello(
     ensures answer { λ r. ⌜ r ≡ answerOf (wrote 0 (clientHelloFits member) (bool framed) (wrapped member (clientHelloPieces (now («client_id» .entry)))) (length (now (out .entry)))) ⌝ }
     ensures buffer { λ r. ⌜ now (out .exit) ≡ buffer 0 (clientHelloFits member) (bool framed) (wrapped member (clientHelloPieces (now («client_id» .entry)))) (now (out .entry)) ⌝ }
 {
-    answer(writer::client::write_client_hello(member, client_id, framed != 0, out))
+    answer(client_writer::write_client_hello(member, client_id, framed != 0, out))
 }
 
 #[no_mangle]
@@ -47,7 +47,7 @@ pub extern "C" fn sudolog_write_accept(
     ensures answer { λ r. ⌜ r ≡ answerOf (wrote (runRefusal 2 (now (run .entry))) (acceptFits member (stamp seconds nanos)) (bool framed) (wrapped member (acceptPieces (stamp seconds nanos) (now (run .entry)) (bool «expect_iobufs»))) (length (now (out .entry)))) ⌝ }
     ensures buffer { λ r. ⌜ now (out .exit) ≡ buffer (runRefusal 2 (now (run .entry))) (acceptFits member (stamp seconds nanos)) (bool framed) (wrapped member (acceptPieces (stamp seconds nanos) (now (run .entry)) (bool «expect_iobufs»))) (now (out .entry)) ⌝ }
 {
-    answer(writer::client::write_accept(
+    answer(client_writer::write_accept(
         member,
         seconds,
         nanos,
@@ -71,7 +71,7 @@ pub extern "C" fn sudolog_write_report(
     ensures answer { λ r. ⌜ r ≡ answerOf (wrote (runRefusal 3 (now (run .entry))) (reportFits member (stamp seconds nanos)) (bool framed) (wrapped member (reportPieces (stamp seconds nanos) (now (reason .entry)) (now (run .entry)))) (length (now (out .entry)))) ⌝ }
     ensures buffer { λ r. ⌜ now (out .exit) ≡ buffer (runRefusal 3 (now (run .entry))) (reportFits member (stamp seconds nanos)) (bool framed) (wrapped member (reportPieces (stamp seconds nanos) (now (reason .entry)) (now (run .entry)))) (now (out .entry)) ⌝ }
 {
-    answer(writer::client::write_report(member, seconds, nanos, reason, run, framed != 0, out))
+    answer(client_writer::write_report(member, seconds, nanos, reason, run, framed != 0, out))
 }
 
 #[no_mangle]
@@ -89,7 +89,7 @@ pub extern "C" fn sudolog_write_exit(
     ensures answer { λ r. ⌜ r ≡ answerOf (wrote 0 (exitFits member (stamp seconds nanos) «exit_value» (now (signal .entry))) (bool framed) (wrapped member (exitPieces (stamp seconds nanos) «exit_value» (bool «dumped_core») (now (signal .entry)) (now (error .entry)))) (length (now (out .entry)))) ⌝ }
     ensures buffer { λ r. ⌜ now (out .exit) ≡ buffer 0 (exitFits member (stamp seconds nanos) «exit_value» (now (signal .entry))) (bool framed) (wrapped member (exitPieces (stamp seconds nanos) «exit_value» (bool «dumped_core») (now (signal .entry)) (now (error .entry)))) (now (out .entry)) ⌝ }
 {
-    answer(writer::client::write_exit(
+    answer(client_writer::write_exit(
         member,
         seconds,
         nanos,
@@ -114,7 +114,7 @@ pub extern "C" fn sudolog_write_restart(
     ensures answer { λ r. ⌜ r ≡ answerOf (wrote 0 (restartFits member (now («log_id» .entry)) (stamp seconds nanos)) (bool framed) (wrapped member (restartPieces (now («log_id» .entry)) (stamp seconds nanos))) (length (now (out .entry)))) ⌝ }
     ensures buffer { λ r. ⌜ now (out .exit) ≡ buffer 0 (restartFits member (now («log_id» .entry)) (stamp seconds nanos)) (bool framed) (wrapped member (restartPieces (now («log_id» .entry)) (stamp seconds nanos))) (now (out .entry)) ⌝ }
 {
-    answer(writer::client::write_restart(member, log_id, seconds, nanos, framed != 0, out))
+    answer(client_writer::write_restart(member, log_id, seconds, nanos, framed != 0, out))
 }
 
 #[no_mangle]
@@ -129,7 +129,7 @@ pub extern "C" fn sudolog_write_io(
     ensures answer { λ r. ⌜ r ≡ answerOf (wrote 0 (ioFits member (stamp seconds nanos)) (bool framed) (wrapped member (timedPieces (stamp seconds nanos) (now («data» .entry)))) (length (now (out .entry)))) ⌝ }
     ensures buffer { λ r. ⌜ now (out .exit) ≡ buffer 0 (ioFits member (stamp seconds nanos)) (bool framed) (wrapped member (timedPieces (stamp seconds nanos) (now («data» .entry)))) (now (out .entry)) ⌝ }
 {
-    answer(writer::client::write_io(member, seconds, nanos, data, framed != 0, out))
+    answer(client_writer::write_io(member, seconds, nanos, data, framed != 0, out))
 }
 
 #[no_mangle]
@@ -145,7 +145,7 @@ pub extern "C" fn sudolog_write_window_size(
     ensures answer { λ r. ⌜ r ≡ answerOf (wrote 0 (windowFits member (stamp seconds nanos) rows cols) (bool framed) (wrapped member (windowPieces (stamp seconds nanos) rows cols)) (length (now (out .entry)))) ⌝ }
     ensures buffer { λ r. ⌜ now (out .exit) ≡ buffer 0 (windowFits member (stamp seconds nanos) rows cols) (bool framed) (wrapped member (windowPieces (stamp seconds nanos) rows cols)) (now (out .entry)) ⌝ }
 {
-    answer(writer::client::write_window_size(member, seconds, nanos, rows, cols, framed != 0, out))
+    answer(client_writer::write_window_size(member, seconds, nanos, rows, cols, framed != 0, out))
 }
 
 #[no_mangle]
@@ -160,7 +160,7 @@ pub extern "C" fn sudolog_write_suspend(
     ensures answer { λ r. ⌜ r ≡ answerOf (wrote 0 (suspendFits member (stamp seconds nanos) (now (signal .entry))) (bool framed) (wrapped member (timedPieces (stamp seconds nanos) (now (signal .entry)))) (length (now (out .entry)))) ⌝ }
     ensures buffer { λ r. ⌜ now (out .exit) ≡ buffer 0 (suspendFits member (stamp seconds nanos) (now (signal .entry))) (bool framed) (wrapped member (timedPieces (stamp seconds nanos) (now (signal .entry)))) (now (out .entry)) ⌝ }
 {
-    answer(writer::client::write_suspend(member, seconds, nanos, signal, framed != 0, out))
+    answer(client_writer::write_suspend(member, seconds, nanos, signal, framed != 0, out))
 }
 
 #[no_mangle]
@@ -173,7 +173,7 @@ pub extern "C" fn sudolog_write_string_list(
     ensures answer { λ r. ⌜ r ≡ answerOf (wrote 0 (endsFit (now (joined .entry)) (now (ends .entry))) (bool framed) (wrapped 0 (stringListPieces (cutAt (now (joined .entry)) 0 (now (ends .entry))))) (length (now (out .entry)))) ⌝ }
     ensures buffer { λ r. ⌜ now (out .exit) ≡ buffer 0 (endsFit (now (joined .entry)) (now (ends .entry))) (bool framed) (wrapped 0 (stringListPieces (cutAt (now (joined .entry)) 0 (now (ends .entry))))) (now (out .entry)) ⌝ }
 {
-    answer(writer::entry::write_string_list(joined, ends, framed != 0, out))
+    answer(entry_writer::write_string_list(joined, ends, framed != 0, out))
 }
 
 #[no_mangle]
@@ -181,7 +181,7 @@ pub extern "C" fn sudolog_write_number_list(numbers: &[u64], framed: u8, out: &m
     ensures answer { λ r. ⌜ r ≡ answerOf (wrote 0 (true) (bool framed) (wrapped 0 (numberListPieces (now (numbers .entry)))) (length (now (out .entry)))) ⌝ }
     ensures buffer { λ r. ⌜ now (out .exit) ≡ buffer 0 (true) (bool framed) (wrapped 0 (numberListPieces (now (numbers .entry)))) (now (out .entry)) ⌝ }
 {
-    answer(writer::entry::write_number_list(numbers, framed != 0, out))
+    answer(entry_writer::write_number_list(numbers, framed != 0, out))
 }
 
 #[no_mangle]
@@ -195,7 +195,7 @@ pub extern "C" fn sudolog_write_entry_number(
     ensures answer { λ r. ⌜ r ≡ answerOf (wrote 0 (entryFits member (now (key .entry))) (bool framed) (wrapped member (entryPieces (now (key .entry)) (numval value))) (length (now (out .entry)))) ⌝ }
     ensures buffer { λ r. ⌜ now (out .exit) ≡ buffer 0 (entryFits member (now (key .entry))) (bool framed) (wrapped member (entryPieces (now (key .entry)) (numval value))) (now (out .entry)) ⌝ }
 {
-    answer(writer::entry::write_entry_number(member, key, value, framed != 0, out))
+    answer(entry_writer::write_entry_number(member, key, value, framed != 0, out))
 }
 
 #[no_mangle]
@@ -209,7 +209,7 @@ pub extern "C" fn sudolog_write_entry_string(
     ensures answer { λ r. ⌜ r ≡ answerOf (wrote 0 (entryFits member (now (key .entry))) (bool framed) (wrapped member (entryPieces (now (key .entry)) (strval (now (value .entry))))) (length (now (out .entry)))) ⌝ }
     ensures buffer { λ r. ⌜ now (out .exit) ≡ buffer 0 (entryFits member (now (key .entry))) (bool framed) (wrapped member (entryPieces (now (key .entry)) (strval (now (value .entry))))) (now (out .entry)) ⌝ }
 {
-    answer(writer::entry::write_entry_string(member, key, value, framed != 0, out))
+    answer(entry_writer::write_entry_string(member, key, value, framed != 0, out))
 }
 
 #[no_mangle]
@@ -224,7 +224,7 @@ pub extern "C" fn sudolog_write_entry_strings(
     ensures answer { λ r. ⌜ r ≡ answerOf (wrote 0 (entryStringsFits member (now (key .entry)) (now (joined .entry)) (now (ends .entry))) (bool framed) (wrapped member (entryPieces (now (key .entry)) (strlistval (cutAt (now (joined .entry)) 0 (now (ends .entry)))))) (length (now (out .entry)))) ⌝ }
     ensures buffer { λ r. ⌜ now (out .exit) ≡ buffer 0 (entryStringsFits member (now (key .entry)) (now (joined .entry)) (now (ends .entry))) (bool framed) (wrapped member (entryPieces (now (key .entry)) (strlistval (cutAt (now (joined .entry)) 0 (now (ends .entry)))))) (now (out .entry)) ⌝ }
 {
-    answer(writer::entry::write_entry_strings(member, key, joined, ends, framed != 0, out))
+    answer(entry_writer::write_entry_strings(member, key, joined, ends, framed != 0, out))
 }
 
 #[no_mangle]
@@ -238,7 +238,7 @@ pub extern "C" fn sudolog_write_entry_numbers(
     ensures answer { λ r. ⌜ r ≡ answerOf (wrote 0 (entryFits member (now (key .entry))) (bool framed) (wrapped member (entryPieces (now (key .entry)) (numlistval (now (numbers .entry))))) (length (now (out .entry)))) ⌝ }
     ensures buffer { λ r. ⌜ now (out .exit) ≡ buffer 0 (entryFits member (now (key .entry))) (bool framed) (wrapped member (entryPieces (now (key .entry)) (numlistval (now (numbers .entry))))) (now (out .entry)) ⌝ }
 {
-    answer(writer::entry::write_entry_numbers(member, key, numbers, framed != 0, out))
+    answer(entry_writer::write_entry_numbers(member, key, numbers, framed != 0, out))
 }
 
 #[no_mangle]
@@ -255,7 +255,7 @@ pub extern "C" fn sudolog_write_server_hello(
     ensures answer { λ r. ⌜ r ≡ answerOf (wrote 0 (serverHelloFits member (now (joined .entry)) (now (ends .entry))) (bool framed) (wrapped member (serverHelloPieces (now («server_id» .entry)) (now (redirect .entry)) (cutAt (now (joined .entry)) 0 (now (ends .entry))) (bool subcommands))) (length (now (out .entry)))) ⌝ }
     ensures buffer { λ r. ⌜ now (out .exit) ≡ buffer 0 (serverHelloFits member (now (joined .entry)) (now (ends .entry))) (bool framed) (wrapped member (serverHelloPieces (now («server_id» .entry)) (now (redirect .entry)) (cutAt (now (joined .entry)) 0 (now (ends .entry))) (bool subcommands))) (now (out .entry)) ⌝ }
 {
-    answer(writer::server::write_server_hello(
+    answer(server_writer::write_server_hello(
         member,
         server_id,
         redirect,
@@ -278,7 +278,7 @@ pub extern "C" fn sudolog_write_time(
     ensures answer { λ r. ⌜ r ≡ answerOf (wrote 0 (timeFits member (stamp seconds nanos)) (bool framed) (wrapped member (timePieces (stamp seconds nanos))) (length (now (out .entry)))) ⌝ }
     ensures buffer { λ r. ⌜ now (out .exit) ≡ buffer 0 (timeFits member (stamp seconds nanos)) (bool framed) (wrapped member (timePieces (stamp seconds nanos))) (now (out .entry)) ⌝ }
 {
-    answer(writer::server::write_time(member, seconds, nanos, framed != 0, out))
+    answer(server_writer::write_time(member, seconds, nanos, framed != 0, out))
 }
 
 #[no_mangle]
@@ -286,5 +286,5 @@ pub extern "C" fn sudolog_write_note(member: u64, note: &[u8], framed: u8, out: 
     ensures answer { λ r. ⌜ r ≡ answerOf (wrote 0 (noteFits member) (bool framed) (encodeAll (bytes member (now (note .entry)) ∷ [])) (length (now (out .entry)))) ⌝ }
     ensures buffer { λ r. ⌜ now (out .exit) ≡ buffer 0 (noteFits member) (bool framed) (encodeAll (bytes member (now (note .entry)) ∷ [])) (now (out .entry)) ⌝ }
 {
-    answer(writer::server::write_note(member, note, framed != 0, out))
+    answer(server_writer::write_note(member, note, framed != 0, out))
 }

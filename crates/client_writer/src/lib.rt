@@ -1,0 +1,234 @@
+// The writers of a ClientMessage's members. A writer, here and in `server_writer` and `entry_writer`, takes its message's fields,
+// `framed` (with the four bytes of a frame before it) and the buffer, from whose start it writes; it answers document 01's
+// refusal, 0 for none, and how many bytes it wrote. On a refusal nothing is written. `member` is the field number of the message
+// around it, in which it is written, or 0 to write it by itself; any other number is refused with 7.
+use fits::both;
+use fits::date_fits;
+use fits::flag;
+use fits::member_in;
+use fits::moment_fits;
+use fits::sized;
+use layout::form::listed;
+use layout::form::timed;
+use layout::outcome::Wrote;
+use layout::write::write_plain;
+use run::run_refusal;
+ghost use mathlib.Core.Path.{_≡_};
+ghost use lib.ListN.{length};
+ghost use Rattle.written.specs.Draft.{acceptPieces, reportPieces, exitPieces, restartPieces, timedPieces, windowPieces, clientHelloPieces, wrapped};
+ghost use Rattle.written.specs.Run.{runRefusal};
+ghost use Rattle.written.specs.Outcome.{buffer};
+ghost use Rattle.pieces.specs.Put.{stamp};
+ghost use Rattle.fits.specs.Fits.{clientHelloFits, acceptFits, reportMember, reportFits, exitFits, restartFits, ioFits, windowFits, suspendFits};
+ghost use Rattle.layout.specs.Wrote.{wrote};
+
+// A ClientHello, member 13.
+pub fn write_client_hello(member: u64, client_id: &[u8], framed: bool, out: &mut [u8]) -> Wrote
+    ensures answer { λ r. ⌜ r ≡ wrote 0 (clientHelloFits member) framed (wrapped member (clientHelloPieces (now («client_id» .entry)))) (length (now (out .entry))) ⌝ }
+    ensures buffer { λ r. ⌜ now (out .exit) ≡ buffer 0 (clientHelloFits member) framed (wrapped member (clientHelloPieces (now («client_id» .entry)))) (now (out .entry)) ⌝ }
+{
+    let fits = member_in(13, 13, member);
+    let p = listed(0, 0, 0);
+    write_plain(
+        0,
+        fits,
+        member,
+        p,
+        client_id,
+        &[],
+        &[],
+        &[],
+        &[],
+        framed,
+        out,
+    )
+}
+
+// An AcceptMessage, member 1.
+pub fn write_accept(
+    member: u64,
+    seconds: u64,
+    nanos: u64,
+    run: &[u8],
+    expect_iobufs: bool,
+    framed: bool,
+    out: &mut [u8],
+) -> Wrote
+    ensures answer { λ r. ⌜ r ≡ wrote (runRefusal 2 (now (run .entry))) (acceptFits member (stamp seconds nanos)) framed (wrapped member (acceptPieces (stamp seconds nanos) (now (run .entry)) «expect_iobufs»)) (length (now (out .entry))) ⌝ }
+    ensures buffer { λ r. ⌜ now (out .exit) ≡ buffer (runRefusal 2 (now (run .entry))) (acceptFits member (stamp seconds nanos)) framed (wrapped member (acceptPieces (stamp seconds nanos) (now (run .entry)) «expect_iobufs»)) (now (out .entry)) ⌝ }
+{
+    let refusal = run_refusal(2, run);
+    let fits = both(member_in(1, 1, member), date_fits(seconds, nanos));
+    let p = timed(1, seconds, nanos, 0, flag(expect_iobufs));
+    write_plain(
+        refusal,
+        fits,
+        member,
+        p,
+        &[],
+        &[],
+        run,
+        &[],
+        &[],
+        framed,
+        out,
+    )
+}
+
+// A RejectMessage is member 2, an AlertMessage member 5.
+fn report_member(member: u64) -> bool
+    ensures { λ r. ⌜ r ≡ reportMember member ⌝ }
+{
+    if member == 2 {
+        return true;
+    }
+    member_in(5, 5, member)
+}
+
+// A RejectMessage, member 2, or an AlertMessage, member 5: they have the same fields.
+pub fn write_report(
+    member: u64,
+    seconds: u64,
+    nanos: u64,
+    reason: &[u8],
+    run: &[u8],
+    framed: bool,
+    out: &mut [u8],
+) -> Wrote
+    ensures answer { λ r. ⌜ r ≡ wrote (runRefusal 3 (now (run .entry))) (reportFits member (stamp seconds nanos)) framed (wrapped member (reportPieces (stamp seconds nanos) (now (reason .entry)) (now (run .entry)))) (length (now (out .entry))) ⌝ }
+    ensures buffer { λ r. ⌜ now (out .exit) ≡ buffer (runRefusal 3 (now (run .entry))) (reportFits member (stamp seconds nanos)) framed (wrapped member (reportPieces (stamp seconds nanos) (now (reason .entry)) (now (run .entry)))) (now (out .entry)) ⌝ }
+{
+    let refusal = run_refusal(3, run);
+    let fits = both(report_member(member), date_fits(seconds, nanos));
+    let p = timed(1, seconds, nanos, 0, 0);
+    write_plain(
+        refusal,
+        fits,
+        member,
+        p,
+        &[],
+        reason,
+        run,
+        &[],
+        &[],
+        framed,
+        out,
+    )
+}
+
+// An ExitMessage, member 3.
+pub fn write_exit(
+    member: u64,
+    seconds: u64,
+    nanos: u64,
+    exit_value: u64,
+    dumped_core: bool,
+    signal: &[u8],
+    error: &[u8],
+    framed: bool,
+    out: &mut [u8],
+) -> Wrote
+    ensures answer { λ r. ⌜ r ≡ wrote 0 (exitFits member (stamp seconds nanos) «exit_value» (now (signal .entry))) framed (wrapped member (exitPieces (stamp seconds nanos) «exit_value» «dumped_core» (now (signal .entry)) (now (error .entry)))) (length (now (out .entry))) ⌝ }
+    ensures buffer { λ r. ⌜ now (out .exit) ≡ buffer 0 (exitFits member (stamp seconds nanos) «exit_value» (now (signal .entry))) framed (wrapped member (exitPieces (stamp seconds nanos) «exit_value» «dumped_core» (now (signal .entry)) (now (error .entry)))) (now (out .entry)) ⌝ }
+{
+    let values = both(exit_value <= 255, sized(0, 127, signal));
+    let fits = both(
+        member_in(3, 3, member),
+        both(moment_fits(seconds, nanos), values),
+    );
+    let p = timed(1, seconds, nanos, exit_value, flag(dumped_core));
+    write_plain(
+        0,
+        fits,
+        member,
+        p,
+        &[],
+        &[],
+        &[],
+        signal,
+        error,
+        framed,
+        out,
+    )
+}
+
+// A RestartMessage, member 4.
+pub fn write_restart(
+    member: u64,
+    log_id: &[u8],
+    seconds: u64,
+    nanos: u64,
+    framed: bool,
+    out: &mut [u8],
+) -> Wrote
+    ensures answer { λ r. ⌜ r ≡ wrote 0 (restartFits member (now («log_id» .entry)) (stamp seconds nanos)) framed (wrapped member (restartPieces (now («log_id» .entry)) (stamp seconds nanos))) (length (now (out .entry))) ⌝ }
+    ensures buffer { λ r. ⌜ now (out .exit) ≡ buffer 0 (restartFits member (now («log_id» .entry)) (stamp seconds nanos)) framed (wrapped member (restartPieces (now («log_id» .entry)) (stamp seconds nanos))) (now (out .entry)) ⌝ }
+{
+    let fits = both(
+        member_in(4, 4, member),
+        both(sized(1, 4095, log_id), moment_fits(seconds, nanos)),
+    );
+    let p = timed(2, seconds, nanos, 0, 0);
+    write_plain(0, fits, member, p, log_id, &[], &[], &[], &[], framed, out)
+}
+
+// An IoBuffer, members 6 to 10.
+pub fn write_io(
+    member: u64,
+    seconds: u64,
+    nanos: u64,
+    data: &[u8],
+    framed: bool,
+    out: &mut [u8],
+) -> Wrote
+    ensures answer { λ r. ⌜ r ≡ wrote 0 (ioFits member (stamp seconds nanos)) framed (wrapped member (timedPieces (stamp seconds nanos) (now («data» .entry)))) (length (now (out .entry))) ⌝ }
+    ensures buffer { λ r. ⌜ now (out .exit) ≡ buffer 0 (ioFits member (stamp seconds nanos)) framed (wrapped member (timedPieces (stamp seconds nanos) (now («data» .entry)))) (now (out .entry)) ⌝ }
+{
+    let fits = both(member_in(6, 10, member), moment_fits(seconds, nanos));
+    let p = timed(1, seconds, nanos, 0, 0);
+    write_plain(0, fits, member, p, &[], data, &[], &[], &[], framed, out)
+}
+
+// A ChangeWindowSize, member 11.
+pub fn write_window_size(
+    member: u64,
+    seconds: u64,
+    nanos: u64,
+    rows: u64,
+    cols: u64,
+    framed: bool,
+    out: &mut [u8],
+) -> Wrote
+    ensures answer { λ r. ⌜ r ≡ wrote 0 (windowFits member (stamp seconds nanos) rows cols) framed (wrapped member (windowPieces (stamp seconds nanos) rows cols)) (length (now (out .entry))) ⌝ }
+    ensures buffer { λ r. ⌜ now (out .exit) ≡ buffer 0 (windowFits member (stamp seconds nanos) rows cols) framed (wrapped member (windowPieces (stamp seconds nanos) rows cols)) (now (out .entry)) ⌝ }
+{
+    let fits = both(
+        member_in(11, 11, member),
+        both(
+            moment_fits(seconds, nanos),
+            both(rows <= 65535, cols <= 65535),
+        ),
+    );
+    let p = timed(1, seconds, nanos, rows, cols);
+    write_plain(0, fits, member, p, &[], &[], &[], &[], &[], framed, out)
+}
+
+// A CommandSuspend, member 12.
+pub fn write_suspend(
+    member: u64,
+    seconds: u64,
+    nanos: u64,
+    signal: &[u8],
+    framed: bool,
+    out: &mut [u8],
+) -> Wrote
+    ensures answer { λ r. ⌜ r ≡ wrote 0 (suspendFits member (stamp seconds nanos) (now (signal .entry))) framed (wrapped member (timedPieces (stamp seconds nanos) (now (signal .entry)))) (length (now (out .entry))) ⌝ }
+    ensures buffer { λ r. ⌜ now (out .exit) ≡ buffer 0 (suspendFits member (stamp seconds nanos) (now (signal .entry))) framed (wrapped member (timedPieces (stamp seconds nanos) (now (signal .entry)))) (now (out .entry)) ⌝ }
+{
+    let fits = both(
+        member_in(12, 12, member),
+        both(moment_fits(seconds, nanos), sized(1, 127, signal)),
+    );
+    let p = timed(1, seconds, nanos, 0, 0);
+    write_plain(0, fits, member, p, &[], signal, &[], &[], &[], framed, out)
+}

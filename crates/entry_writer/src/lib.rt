@@ -1,0 +1,167 @@
+// Entries and lists. An entry is written by itself, or tagged as in the run of an AcceptMessage (member 2), a RejectMessage or
+// an AlertMessage (member 3): runs are tagged entries one after the other. Lists of strings are lent as joined bytes and ends.
+use fits::both;
+use fits::member_in;
+use layout::form::listed;
+use layout::form::numbered;
+use layout::outcome::Wrote;
+use layout::write::write_message;
+use layout::write::write_plain;
+use pieces::list::ends_fit;
+ghost use mathlib.Core.Path.{_≡_};
+ghost use mathlib.Core.Bool.{true};
+ghost use lib.ListN.{length};
+ghost use Rattle.written.specs.Draft.{numval, strval, strlistval, numlistval, entryPieces, stringListPieces, numberListPieces, cutAt, wrapped};
+ghost use Rattle.written.specs.Outcome.{buffer};
+ghost use Rattle.fits.specs.Fits.{endsFit, entryFits, entryStringsFits};
+ghost use Rattle.layout.specs.Wrote.{wrote};
+
+// A StringList by itself.
+pub fn write_string_list(joined: &[u8], ends: &[usize], framed: bool, out: &mut [u8]) -> Wrote
+    ensures answer { λ r. ⌜ r ≡ wrote 0 (endsFit (now (joined .entry)) (now (ends .entry))) framed (wrapped 0 (stringListPieces (cutAt (now (joined .entry)) 0 (now (ends .entry))))) (length (now (out .entry))) ⌝ }
+    ensures buffer { λ r. ⌜ now (out .exit) ≡ buffer 0 (endsFit (now (joined .entry)) (now (ends .entry))) framed (wrapped 0 (stringListPieces (cutAt (now (joined .entry)) 0 (now (ends .entry))))) (now (out .entry)) ⌝ }
+{
+    let fits = ends_fit(joined.len(), ends);
+    let p = listed(1, 0, 0);
+    write_message(
+        0,
+        fits,
+        0,
+        p,
+        &[],
+        &[],
+        joined,
+        ends,
+        &[],
+        &[],
+        &[],
+        &[],
+        framed,
+        out,
+    )
+}
+
+// A NumberList by itself.
+pub fn write_number_list(numbers: &[u64], framed: bool, out: &mut [u8]) -> Wrote
+    ensures answer { λ r. ⌜ r ≡ wrote 0 (true) framed (wrapped 0 (numberListPieces (now (numbers .entry)))) (length (now (out .entry))) ⌝ }
+    ensures buffer { λ r. ⌜ now (out .exit) ≡ buffer 0 (true) framed (wrapped 0 (numberListPieces (now (numbers .entry)))) (now (out .entry)) ⌝ }
+{
+    let p = listed(0, 0, 0);
+    write_message(
+        0,
+        true,
+        0,
+        p,
+        &[],
+        &[],
+        &[],
+        &[],
+        numbers,
+        &[],
+        &[],
+        &[],
+        framed,
+        out,
+    )
+}
+
+fn entry_fits(member: u64, key: &[u8]) -> bool
+    ensures { λ r. ⌜ r ≡ entryFits member (now (key .entry)) ⌝ }
+{
+    both(member_in(2, 3, member), 1 <= key.len())
+}
+
+// An entry with a number.
+pub fn write_entry_number(
+    member: u64,
+    key: &[u8],
+    value: u64,
+    framed: bool,
+    out: &mut [u8],
+) -> Wrote
+    ensures answer { λ r. ⌜ r ≡ wrote 0 (entryFits member (now (key .entry))) framed (wrapped member (entryPieces (now (key .entry)) (numval value))) (length (now (out .entry))) ⌝ }
+    ensures buffer { λ r. ⌜ now (out .exit) ≡ buffer 0 (entryFits member (now (key .entry))) framed (wrapped member (entryPieces (now (key .entry)) (numval value))) (now (out .entry)) ⌝ }
+{
+    let fits = entry_fits(member, key);
+    let p = numbered(0, value, true);
+    write_plain(0, fits, member, p, key, &[], &[], &[], &[], framed, out)
+}
+
+// An entry with a string.
+pub fn write_entry_string(
+    member: u64,
+    key: &[u8],
+    value: &[u8],
+    framed: bool,
+    out: &mut [u8],
+) -> Wrote
+    ensures answer { λ r. ⌜ r ≡ wrote 0 (entryFits member (now (key .entry))) framed (wrapped member (entryPieces (now (key .entry)) (strval (now (value .entry))))) (length (now (out .entry))) ⌝ }
+    ensures buffer { λ r. ⌜ now (out .exit) ≡ buffer 0 (entryFits member (now (key .entry))) framed (wrapped member (entryPieces (now (key .entry)) (strval (now (value .entry))))) (now (out .entry)) ⌝ }
+{
+    let fits = entry_fits(member, key);
+    let p = listed(0, 3, 0);
+    write_plain(0, fits, member, p, key, &[], value, &[], &[], framed, out)
+}
+
+// An entry with a list of strings.
+pub fn write_entry_strings(
+    member: u64,
+    key: &[u8],
+    joined: &[u8],
+    ends: &[usize],
+    framed: bool,
+    out: &mut [u8],
+) -> Wrote
+    ensures answer { λ r. ⌜ r ≡ wrote 0 (entryStringsFits member (now (key .entry)) (now (joined .entry)) (now (ends .entry))) framed (wrapped member (entryPieces (now (key .entry)) (strlistval (cutAt (now (joined .entry)) 0 (now (ends .entry)))))) (length (now (out .entry))) ⌝ }
+    ensures buffer { λ r. ⌜ now (out .exit) ≡ buffer 0 (entryStringsFits member (now (key .entry)) (now (joined .entry)) (now (ends .entry))) framed (wrapped member (entryPieces (now (key .entry)) (strlistval (cutAt (now (joined .entry)) 0 (now (ends .entry)))))) (now (out .entry)) ⌝ }
+{
+    let fits = both(entry_fits(member, key), ends_fit(joined.len(), ends));
+    let p = listed(1, 4, 0);
+    write_message(
+        0,
+        fits,
+        member,
+        p,
+        key,
+        &[],
+        joined,
+        ends,
+        &[],
+        &[],
+        &[],
+        &[],
+        framed,
+        out,
+    )
+}
+
+// An entry with a list of numbers.
+pub fn write_entry_numbers(
+    member: u64,
+    key: &[u8],
+    numbers: &[u64],
+    framed: bool,
+    out: &mut [u8],
+) -> Wrote
+    ensures answer { λ r. ⌜ r ≡ wrote 0 (entryFits member (now (key .entry))) framed (wrapped member (entryPieces (now (key .entry)) (numlistval (now (numbers .entry))))) (length (now (out .entry))) ⌝ }
+    ensures buffer { λ r. ⌜ now (out .exit) ≡ buffer 0 (entryFits member (now (key .entry))) framed (wrapped member (entryPieces (now (key .entry)) (numlistval (now (numbers .entry))))) (now (out .entry)) ⌝ }
+{
+    let fits = entry_fits(member, key);
+    let p = listed(0, 5, 0);
+    write_message(
+        0,
+        fits,
+        member,
+        p,
+        key,
+        &[],
+        &[],
+        &[],
+        numbers,
+        &[],
+        &[],
+        &[],
+        framed,
+        out,
+    )
+}
