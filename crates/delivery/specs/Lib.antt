@@ -1,0 +1,5 @@
+pub mod Recording
+pub mod Sender
+pub mod Host
+pub mod World
+pub mod Demand
