@@ -38,7 +38,7 @@ pub all-map : {A : Type 0} (P Q : A → Type 0) → ((x : A) → P x → Q x) �
 all-map P Q f [] p = tt
 all-map P Q f (x ∷ xs) p = (f x (p .0), all-map P Q f xs (p .1))
 
-map-append : (xs ys : List TimedRecord) → map recordOf (xs ++ ys) ≡ map recordOf xs ++ map recordOf ys
+pub map-append : (xs ys : List TimedRecord) → map recordOf (xs ++ ys) ≡ map recordOf xs ++ map recordOf ys
 map-append [] ys = refl
 map-append (x ∷ xs) ys = ap (λ (l : List Record). recordOf x ∷ l) (map-append xs ys)
 
