@@ -193,6 +193,14 @@ notes-timed (suspend x) w = refl
 
 -- ---- one message
 
+-- whatever the sender says reads as some member
+pub reads-some : (s : Bytes) (m : Sent) → Says s m → (c : Client) × Reads s c
+reads-some s hello y = (helloMsg (y .0), y .1)
+reads-some s (accept a) y = (_, y .0)
+reads-some s (restart T) y = (restartMsg (y .values), y .reads)
+reads-some s (timed t) y = (member t, y)
+reads-some s (exit e) y = (exitMsg e, y)
+
 module _ (R : Recording) (valid : Valid R) (c : ℕ) (fits : length (fileBytes (records R)) ≤ c) (small : c ≤ 1073741824) where
   -- the desk after a message, where what the session gives and the book are known
   after : Client → Desk → Outcome → ℕ → Desk
@@ -458,14 +466,6 @@ module _ (R : Recording) (valid : Valid R) (c : ℕ) (fits : length (fileBytes (
         go m′ q′ g (whole k) = restart-finished (y .values) (y .reads) (y .in-range) o k
 
   -- ---- any message that is lined up
-
-  -- it reads as some member
-  reads-some : (s : Bytes) (m : Sent) → Says s m → (c : Client) × Reads s c
-  reads-some s hello y = (helloMsg (y .0), y .1)
-  reads-some s (accept a) y = (_, y .0)
-  reads-some s (restart T) y = (restartMsg (y .values), y .reads)
-  reads-some s (timed t) y = (member t, y)
-  reads-some s (exit e) y = (exitMsg e, y)
 
   pub handed : (p : Option ℕ) (s : Bytes) (m : Sent) (ms : List Sent) (d : Desk) → Says s m → Inv R c p (m ∷ ms) d → Inv R c p ms (hand R s d)
   unfolding rest

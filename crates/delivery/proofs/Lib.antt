@@ -5,3 +5,5 @@ pub mod Files
 pub mod Steps
 pub mod Areas
 pub mod Desk
+pub mod Runs
+pub mod Demand
