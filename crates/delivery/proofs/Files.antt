@@ -72,8 +72,13 @@ module _ (R : Recording) where
   pub first : (xs ys : List TimedRecord) → xs ++ ys ≡ R .timed → take (suc (length xs)) (records R) ≡ begun xs
   unfolding records
   first xs ys e =
-      rw (← e, map-append xs ys, append-assoc (map recordOf xs) (map recordOf ys) (exitRecord (R .exit) ∷ []), ← length-records-of xs,
-      take-append-seam (map recordOf xs) (map recordOf ys ++ (exitRecord (R .exit) ∷ [])))
+      rw (
+        ← e,
+        map-append xs ys,
+        append-assoc (map recordOf xs) (map recordOf ys) (exitRecord (R .exit) ∷ []),
+        ← length-records-of xs,
+        take-append-seam (map recordOf xs) (map recordOf ys ++ (exitRecord (R .exit) ∷ [])),
+      )
 
   pub size : length (records R) ≡ suc (suc (length (R .timed)))
   unfolding records

@@ -191,9 +191,11 @@ unfolding mayEnd exitRecord exitBytes k.exitFits
 may-end e h =
     let l : length (e .signal) ≤ 127 = exit-in e h .2 in
     let a = length-append (e .signal) (e .error) in
-    rw (low-bits (e .dumpedCore) (length (e .signal)) l,
-    le-leb 2 (suc (suc (length (e .signal ++ e .error)))) (omega arith),
-    le-leb (2 + length (e .signal)) (suc (suc (length (e .signal ++ e .error)))) (omega arith))
+    rw (
+      low-bits (e .dumpedCore) (length (e .signal)) l,
+      le-leb 2 (suc (suc (length (e .signal ++ e .error)))) (omega arith),
+      le-leb (2 + length (e .signal)) (suc (suc (length (e .signal ++ e .error)))) (omega arith),
+    )
 
 -- ---- a record tells its values
 
