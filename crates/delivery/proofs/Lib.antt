@@ -7,3 +7,4 @@ pub mod Areas
 pub mod Desk
 pub mod Runs
 pub mod Demand
+pub mod Story

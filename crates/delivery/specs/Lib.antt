@@ -3,3 +3,4 @@ pub mod Sender
 pub mod Host
 pub mod World
 pub mod Demand
+pub mod Story
