@@ -6,7 +6,7 @@ use mathlib.Core.Logic.{_⊎_, inl, inr}
 use mathlib.Core.Bool.{Bool, true, false}
 use mathlib.Core.List.{List, [], _∷_, _++_, append-assoc, head-eq-of-cons-eq, tail-eq-of-cons-eq, cons≢nil}
 use lib.Dec.{ltb}
-use lib.ListN.{length, take, drop, length-drop}
+use lib.ListN.{length, take, drop, length-append, length-drop}
 use lib.Seq.{take-append-le, drop-append-le, take-append-seam, drop-append-seam, drop-drop}
 use borrow.Author.Tests.{ltb-true, ltb-false, le-ltb, lt-ltb}
 use Rattle.laws.specs.Base.{pick}
@@ -15,7 +15,7 @@ use Rattle.frame.specs.declared.Cut.{Cut}
 use Rattle.frame.specs.declared.Cut.the-variants.{Wait, Frame, Refused}
 use Rattle.message.specs.Message.{Bytes}
 use Rattle.record.specs.Digits.{digits, valueFrom}
-use Rattle.record.proofs.Numbers.{value-digits}
+use Rattle.record.proofs.Numbers.{length-digits, value-digits}
 use Rattle.delivery.specs.Recording.{All}
 use Rattle.delivery.specs.Host.{frame, frames, Drained, drainCut, drain}
 
@@ -93,3 +93,53 @@ drained (suc k) (m ∷ ms) b rest f e = go (cutOf b) (drained k ms) (cut-front m
           split = ap (λ (x : Bytes). x ∷ ms) (sym q) ∙ ap (λ (l : List Bytes). take (length m) (drop 4 b) ∷ l) (r .split);
           lined = r .lined;
         })
+
+-- ---- and leaves no whole frame
+
+-- no whole frame stands at the start
+abbrev pub Short : Bytes → Type 0
+Short b = (n : ℕ) → cutOf b ≡ Frame n → ⊥
+
+-- a whole frame has its four bytes and its message
+pub frame-inside : (b : Bytes) (n : ℕ) → cutOf b ≡ Frame n → 4 + n ≤ length b
+unfolding cutOf
+frame-inside b n e = go (ltb (length b) 4) (ltb largest (lengthOf b)) (ltb (length b) (4 + lengthOf b)) refl e
+  where
+    go : (x y z : Bool) → ltb (length b) (4 + lengthOf b) ≡ z
+        → pick x (Wait (4 - length b)) (pick y Refused (pick z (Wait (4 + lengthOf b - length b)) (Frame (lengthOf b)))) ≡ Frame n → 4 + n ≤ length b
+    go true y z t q = let u : _≡_ {A = ℕ} 0 1 = cc in absurd (omega arith)
+    go false true z t q = let u : _≡_ {A = ℕ} 0 1 = cc in absurd (omega arith)
+    go false false true t q = let u : _≡_ {A = ℕ} 0 1 = cc in absurd (omega arith)
+    go false false false t q = let u : lengthOf b ≡ n = cc in omega (arith, ltb-false (length b) (4 + lengthOf b) t)
+
+none-short : (b : Bytes) → length b ≤ 0 → Short b
+none-short b h n e = absurd (omega (arith, frame-inside b n e))
+
+pub drain-short : (k : ℕ) (b : Bytes) → length b ≤ k → Short (drain k b .left)
+unfolding drain drainCut
+drain-short zero b h = none-short b h
+drain-short (suc k) b h = go (cutOf b) refl (drain-short k)
+  where
+    differ : (c : Cut) → cutOf b ≡ c → ((n : ℕ) → c ≡ Frame n → ⊥) → Short b
+    differ c e f n q = f n (sym e ∙ q)
+
+    go : (c : Cut) → cutOf b ≡ c → ((t : Bytes) → length t ≤ k → Short (drain k t .left)) → Short (drainCut (drain k) b c .left)
+    go (Wait n) e ih = differ (Wait n) e (λ m q. let u : _≡_ {A = ℕ} 0 1 = cc in omega arith)
+    go Refused e ih = differ Refused e (λ m q. let u : _≡_ {A = ℕ} 0 1 = cc in omega arith)
+    go (Frame n) e ih = ih (drop (4 + n) b) (omega (arith, frame-inside b n e, length-drop (4 + n) b))
+
+-- a frame that is there is a whole one
+pub frame-whole : (m fs : Bytes) → Fits m → cutOf (frame m ++ fs) ≡ Frame (length m)
+unfolding frame cutOf
+frame-whole m fs h =
+    let b : Bytes = (digits 4 (length m) ++ m) ++ fs in
+    let n : lengthOf b ≡ length m = ap lengthOf (append-assoc (digits 4 (length m)) m fs) ∙ length-back m (m ++ fs) h in
+    let l : length b ≡ 4 + length m + length fs =
+    length-append (digits 4 (length m) ++ m) fs ∙ ap (λ (k : ℕ). k + length fs) (length-append (digits 4 (length m)) m ∙ ap (λ (k : ℕ). k + length m) (length-digits 4 (length m))) in
+    rw (le-ltb (length b) 4 (omega arith), n, le-ltb largest (length m) h, le-ltb (length b) (4 + length m) (omega arith))
+
+-- so where nothing more is to come and no whole frame is there, there are no messages left
+pub none-left : (ms : List Bytes) (b : Bytes) → All Fits ms → b ≡ frames ms → Short b → ms ≡ []
+unfolding frames
+none-left [] b f e s = refl
+none-left (m ∷ ms) b f e s = absurd (s (length m) (ap cutOf e ∙ frame-whole m (frames ms) (f .0)))
