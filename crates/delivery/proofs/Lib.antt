@@ -8,3 +8,4 @@ pub mod Desk
 pub mod Runs
 pub mod Demand
 pub mod Story
+pub mod Progress

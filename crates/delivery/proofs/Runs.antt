@@ -40,7 +40,7 @@ abbrev placed : ℕ → Option ℕ → Option Place
 placed a none = none
 placed a (some T) = some (record { area = a; at = T })
 
-abbrev LatestOk : Recording → (ℕ → ℕ) → Option Place → Type 0
+abbrev pub LatestOk : Recording → (ℕ → ℕ) → Option Place → Type 0
 LatestOk R book none = Unit {0}
 LatestOk R book (some p) = Good R (book (p .area)) (p .at)
 
@@ -65,7 +65,7 @@ module _ (R : Recording) (blank : ℕ → Bytes) where
     pub read-as : Lines bodies coming
     pub inv : Inv R (length (blank (c .area))) sees coming (desk w c)
 
-  abbrev LinkOk : World → Option Connection → Type 0
+  abbrev pub LinkOk : World → Option Connection → Type 0
   LinkOk w none = w .part ≡ []
   LinkOk w (some c) = Link w c
 
