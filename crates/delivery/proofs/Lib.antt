@@ -8,4 +8,5 @@ pub mod Desk
 pub mod Runs
 pub mod Demand
 pub mod Story
+pub mod Restarting
 pub mod Progress

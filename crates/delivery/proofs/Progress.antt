@@ -20,8 +20,9 @@ use Rattle.delivery.specs.Sender.{Place, Sent, hello, accept, restart, t
 use Rattle.delivery.specs.Host.{frames, Drained, drain, cutAll, Answer, toTick, toMessage, Desk, handAll}
 use Rattle.delivery.specs.World.{Connection, World, file, fresh, Event, opening, bytes, tick, arrival, break, withConnection, areaOf, opened, put, desk, settled, cameIn, latestAfter, arrived, inside, outside, happens, run, Fresh, Proper, AllProper}
 use Rattle.delivery.specs.Demand.{Given, Listed, after}
-use Rattle.delivery.specs.Progress.{Sendable, Restartable, underWay, TellsEnd, Done, GoesOn, Progress}
+use Rattle.delivery.specs.Progress.{Sendable, underWay, TellsEnd, Done, GoesOn, Progress}
 use Rattle.delivery.proofs.Totals.{later}
+use Rattle.delivery.proofs.Restarting.{restartable}
 use Rattle.delivery.proofs.Cutting.{Short, drain-short, none-left}
 use Rattle.delivery.proofs.Files.{all-map}
 use Rattle.delivery.proofs.Desk.{AnswerOk, Lead, Stage, beginning, resuming, logging, over, Inv}
@@ -266,7 +267,7 @@ module _ (R : Recording) (blank : ℕ → Bytes) where
         let g : LatestOk R (w .book) (some p) = subst (LatestOk R (w .book)) e (ok .latest-ok) in
         omega (arith, g .below, valid .within-limit)
 
-    module _ (sends : Sendable R) (restarts : Restartable) where
+    module _ (sends : Sendable R) where
       unconnected-goes : (w : World) → WorldOk R blank w → Bounded w → w .connection ≡ none → Goes w
       unfolding run AllProper
       unconnected-goes w ok b e = go (w .stopped) refl
@@ -275,7 +276,7 @@ module _ (R : Recording) (blank : ℕ → Bytes) where
           go true s = record { more = []; proper = tt; whole = ok .stopped-ok s }
           go false s =
               goes-last w ok e s (b .bound) (fresh-at w b (w .latest))
-              (lined-messages R sends (w .latest) (λ p q. restarts (p .at) (point-within w ok p q)))
+              (lined-messages R sends (w .latest) (λ p q. restartable (p .at) (point-within w ok p q)))
 
       -- a connection is broken first
       goes : (w : World) → WorldOk R blank w → Bounded w → Goes w
@@ -318,9 +319,9 @@ module _ (blank : ℕ → Bytes) where
     under-way w none l = tt
     under-way w (some c) l = all-map (AnswerOk R (w .book (c .area))) (TellsEnd R) (tells (w .book (c .area))) (c .out) (l .inv .out-ok)
 
-    on-from : Sendable R → Restartable → (es : List Event) → Listed blank R es → GoesOn blank R es
-    on-from s r es p =
-        let x : Goes R blank (after blank R es) = goes R blank (g .valid) (g .fits) (g .in-range) s r (after blank R es) (ok-after es p) (run-bounded R es (fresh blank) (fresh-bounded blank)) in
+    on-from : Sendable R → (es : List Event) → Listed blank R es → GoesOn blank R es
+    on-from s es p =
+        let x : Goes R blank (after blank R es) = goes R blank (g .valid) (g .fits) (g .in-range) s (after blank R es) (ok-after es p) (run-bounded R es (fresh blank) (fresh-bounded blank)) in
         let q : Listed blank R (es ++ x .more) = proper-append R es (x .more) (fresh blank) p (x .proper) in
         record {
           more = x .more;
@@ -333,5 +334,5 @@ module _ (blank : ℕ → Bytes) where
   progress = record {
     stopped = λ R g es p h. done R g (after blank R es) (ok-after R g es p) (ok-after R g es p .stopped-ok h);
     points = λ R g es p. under-way R g (after blank R es) (after blank R es .connection) (ok-after R g es p .link);
-    goes-on = λ R g s r es p. on-from R g s r es p;
+    goes-on = λ R g s es p. on-from R g s es p;
   }

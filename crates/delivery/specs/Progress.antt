@@ -1,16 +1,16 @@
 -- Beyond the letter of demand 3: a sender that has stopped has its whole recording in a file, and from any state that a list can
 -- reach it can go on to a finished file. So a session that refuses all, or answers nothing, does not do.
-use Prim.Native.Nat.{ℕ, _≤_, _<_}
+use Prim.Native.Nat.{ℕ, _<_}
 use mathlib.Core.Path.{_≡_}
 use mathlib.Core.Bool.{true}
 use mathlib.Core.Option.{Option, none, some}
 use mathlib.Core.List.{List, [], _∷_, _++_}
 use Rattle.message.specs.Message.{Bytes}
-use Rattle.record.specs.File.{fileBytes, limit}
+use Rattle.record.specs.File.{fileBytes}
 use Rattle.session.specs.declared.Point.{Point}
 use Rattle.session.specs.declared.Point.the-variants as point
 use Rattle.delivery.specs.Recording.{TimedRecord, Recording, records, totalOf, All}
-use Rattle.delivery.specs.Sender.{accept, restart, timed, exit, Says}
+use Rattle.delivery.specs.Sender.{accept, timed, exit, Says}
 use Rattle.delivery.specs.Host.{Answer, toTick, toMessage}
 use Rattle.delivery.specs.World.{Connection, World, Event, file}
 use Rattle.delivery.specs.Demand.{Given, Listed, after}
@@ -20,10 +20,6 @@ pub record Sendable (R : Recording) : Type 0 where
   pub accepts : (s : Bytes) × Says s (accept (R .accept))
   pub times : All (λ (t : TimedRecord). (s : Bytes) × Says s (timed t)) (R .timed)
   pub exits : (s : Bytes) × Says s (exit (R .exit))
-
--- some message says a restart at T
-abbrev pub Restartable : Type 0
-Restartable = (T : ℕ) → T ≤ limit → (s : Bytes) × Says s (restart T)
 
 -- what is under way
 abbrev pub underWay : Option Connection → List Answer
@@ -52,4 +48,4 @@ module _ (blank : ℕ → Bytes) where
     pub stopped : (R : Recording) → Given blank R → (es : List Event) → Listed blank R es → after blank R es .stopped ≡ true → Done R (after blank R es)
     -- the sender could tell its exit's point from a tick's by its value
     pub points : (R : Recording) → Given blank R → (es : List Event) → Listed blank R es → All (TellsEnd R) (underWay (after blank R es .connection))
-    pub goes-on : (R : Recording) → Given blank R → Sendable R → Restartable → (es : List Event) → Listed blank R es → GoesOn R es
+    pub goes-on : (R : Recording) → Given blank R → Sendable R → (es : List Event) → Listed blank R es → GoesOn R es
