@@ -1,23 +1,21 @@
 -- Demand 3 holds.
 use Prim.Native.Nat.{ℕ}
 use mathlib.Core.Path.{_≡_, refl, ap, sym, _∙_}
-use mathlib.Core.Bool.{Bool, true, false}
 use mathlib.Core.List.{List, [], _∷_, _++_, map, head-eq-of-cons-eq, tail-eq-of-cons-eq, nil≢cons, cons≢nil}
-use lib.Dec.{eqb}
 use lib.ListN.{length, take}
 use lib.Seq.{take-length}
 use borrow.Author.Tests.{eqb-true}
 use Rattle.message.specs.Message.{Bytes}
 use Rattle.record.specs.Record.{Record}
-use Rattle.record.specs.File.{fileBytes, FileKind, finished, fileKind}
+use Rattle.record.specs.File.{fileBytes, fileKind}
 use Rattle.record.proofs.Reading.{file-injective}
 use Rattle.delivery.specs.Recording.{TimedRecord, Recording, acceptRecord, recordOf, exitRecord, records, All, ValidTimed, Valid}
 use Rattle.delivery.specs.Host.{carries}
-use Rattle.delivery.specs.World.{World, Event, fresh, file}
+use Rattle.delivery.specs.World.{Event, fresh, file}
 use Rattle.delivery.specs.Demand.{Given, Listed, after, Carries, Demand3}
 use Rattle.delivery.proofs.Values.{same-timed, same-exit}
 use Rattle.delivery.proofs.Files.{all-ranged, carries-is}
-use Rattle.delivery.proofs.Runs.{WorldOk, Whole, fresh-ok, run-ok}
+use Rattle.delivery.proofs.Runs.{WorldOk, fresh-ok, run-ok}
 
 -- ---- a file tells its recording
 

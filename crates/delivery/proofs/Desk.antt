@@ -1,12 +1,12 @@
 -- The invariant of a connection at the host, and that each message of the sender's that is handed to the session keeps it.
 use Prim.Native.Nat.{ℕ, suc, _+_, _≤_, _<_}
 use native.Mathlib.Omega.{arith}
-use mathlib.Core.Path.{_≡_, refl, ap, sym, _∙_, subst}
+use mathlib.Core.Path.{_≡_, refl, ap, sym, _∙_}
 use mathlib.Core.Logic.{_⊎_, inl, inr}
 use mathlib.Core.Bool.{Bool, true, false, not}
 use mathlib.Core.Option.{Option, none, some}
-use mathlib.Core.List.{List, [], _∷_, _++_, append-assoc, append-nil, map, head-eq-of-cons-eq, tail-eq-of-cons-eq}
-use lib.Dec.{leb, eqb}
+use mathlib.Core.List.{List, [], _∷_, _++_, append-assoc, append-nil, head-eq-of-cons-eq, tail-eq-of-cons-eq}
+use lib.Dec.{eqb}
 use lib.ListN.{length, take, length-append}
 use borrow.Author.Tests.{eq-eqb, ne-eqb, eqb-true, eqb-false}
 use Rattle.laws.specs.Base.{pick, both, splice}
@@ -14,23 +14,23 @@ use Rattle.message.specs.Message.{Bytes, Restart, Client, acceptMsg, rejectMsg,
 use Rattle.range.specs.Range.{restartFits}
 use Rattle.wire.specs.Read.{value, clientMessage}
 use Rattle.record.specs.Record.{Record, recordBytes}
-use Rattle.record.specs.File.{all, recordsOf, fileBytes, limit, total, finished, unfinished, recordsKind, fileKind, keep}
-use Rattle.session.specs.Step.{Outcome, moment, inState, refuse, taken, lengthsFit, roomFor, stored, atMark, grown, step}
-use Rattle.session.specs.Answer.{mayOpen, storedTo, exitedTo}
+use Rattle.record.specs.File.{recordsOf, fileBytes, total, fileKind}
+use Rattle.session.specs.Step.{Outcome, moment, refuse, taken, lengthsFit, roomFor, atMark, grown, step}
+use Rattle.session.specs.Answer.{mayOpen, storedTo}
 use Rattle.session.specs.declared.State.{State}
-use Rattle.session.specs.declared.State.the-variants.{New, Greeted, Logging, EventsOnly, Closed}
+use Rattle.session.specs.declared.State.the-variants.{New, Greeted, Logging, Closed}
 use Rattle.session.specs.declared.Session.{Session}
 use Rattle.session.specs.declared.Mark.{Mark}
 use Rattle.session.specs.declared.Mark.the-variants as mark
 use Rattle.session.specs.declared.Point.{Point}
 use Rattle.session.specs.declared.Point.the-variants as point
 use Rattle.delivery.specs.Recording.{TimedRecord, io, window, suspend, Recording, acceptRecord, recordOf, exitRecord, records, time, totalOf, All, ValidTimed, Valid, acceptOf}
-use Rattle.delivery.specs.Sender.{Sent, hello, accept, restart, timed, exit, rest, Reads, SaysRestart, Says, Lines, member, received}
+use Rattle.delivery.specs.Sender.{Sent, hello, accept, restart, timed, exit, rest, Reads, Says, Lines, member}
 use Rattle.delivery.specs.Host.{countedMember, counted, booked, WholeRestart, carries, notedMember, noted, Answer, toTick, toMessage, Desk, hand, handAll}
 use Rattle.delivery.specs.World.{isPoint, stoppedAfter}
 use Rattle.delivery.proofs.Totals.{kept, later, kept-later, atMost-is, kept-beginning, kept-exact, HeadLater, later-head}
 use Rattle.delivery.proofs.Values.{time-is}
-use Rattle.delivery.proofs.Files.{all-append, all-left, all-right, all-map, total-of-append, begun, first, size, Count, nothing, some-of, whole, count, beginning-short, begun-unfinished, read-begun, whole-finished, read-whole, carries-is}
+use Rattle.delivery.proofs.Files.{all-append, all-right, all-map, total-of-append, begun, first, size, Count, nothing, some-of, whole, count, beginning-short, begun-unfinished, read-begun, whole-finished, read-whole, carries-is}
 use Rattle.delivery.proofs.Areas.{Lies, Next, next-below, next-room, lies-next, size-next, next-accept, next-timed, next-exit, meets-begun, lies-kept}
 use Rattle.delivery.proofs.Steps.{lengths-fit, room-for, step-hello, step-accept, begins, step-timed, step-exit, step-restart, resumes, step-finished, step-closed}
 

@@ -1,21 +1,18 @@
 -- The recording's first n records as a file: its bytes, its length, what it is.
-use Prim.Native.Nat.{ℕ, zero, suc, _+_, _-_, _≤_, _<_}
-use native.Mathlib.Nat.{add-assoc}
+use Prim.Native.Nat.{ℕ, zero, suc, _+_, _≤_}
 use native.Mathlib.Omega.{arith}
 use mathlib.Core.Path.{_≡_, refl, ap, sym, _∙_}
 use mathlib.Core.Bool.{Bool, true, false}
 use mathlib.Core.List.{List, [], _∷_, _++_, append-assoc, append-nil, map}
 use lib.Dec.{leb, eqb}
-use lib.ListN.{length, take, drop, length-append, length-map, take-append-drop}
+use lib.ListN.{length, take, drop, length-append, take-append-drop}
 use lib.Seq.{take-append-seam, length-take-le, take-all}
-use borrow.Author.Tests.{leb-true, leb-false, le-leb, eq-eqb, ne-eqb}
-use Rattle.laws.specs.Base.{pick, both}
-use Rattle.record.specs.Record.{Record, recordBytes}
-use Rattle.record.specs.File.{Records, all, none, recordsOf, fileBytes, limit, total, timeOf, FileKind, invalid, unfinished, finished, restKind, recordsKind, kindOf, fileKind}
+use borrow.Author.Tests.{leb-true, leb-false, eq-eqb, ne-eqb}
+use Rattle.record.specs.Record.{Record}
+use Rattle.record.specs.File.{Records, all, recordsOf, fileBytes, limit, total, unfinished, finished, restKind, recordsKind, kindOf, fileKind}
 use Rattle.record.proofs.Times.{rest-cons, accept-cons}
-use Rattle.record.proofs.Records.{length-record}
 use Rattle.record.proofs.Reading.{InRange, Ranged, no-records, one-more, records-of-file}
-use Rattle.record.proofs.Appends.{file-append, file-snoc, ranged-append, kind-exit, file-kind, total-append}
+use Rattle.record.proofs.Appends.{file-append, ranged-append, kind-exit, total-append}
 use Rattle.delivery.specs.Recording.{TimedRecord, Recording, acceptRecord, recordOf, exitRecord, records, time, totalOf, All, ValidTimed, Valid}
 use Rattle.delivery.specs.Host.{carries}
 use Rattle.delivery.proofs.Values.{timed-ranged, time-is, may-follow, exit-ranged, may-end}

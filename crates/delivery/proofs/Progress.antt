@@ -1,33 +1,31 @@
 -- From any state that a list can reach, the sender can go on to a finished file.
-use Prim.Native.Nat.{ℕ, zero, suc, _+_, _≤_, _<_}
+use Prim.Native.Nat.{ℕ, suc, _+_, _≤_, _<_}
 use native.Mathlib.Nat.{le-refl}
 use native.Mathlib.Omega.{arith}
 use mathlib.Core.Path.{_≡_, refl, ap, sym, _∙_, subst}
+use mathlib.Core.Logic.{inl, inr}
 use mathlib.Core.Bool.{Bool, true, false}
 use mathlib.Core.Option.{Option, none, some}
-use mathlib.Core.List.{List, [], _∷_, _++_, append-assoc, append-nil, map, cons≢nil, nil≢cons}
-use lib.Dec.{leb, eqb}
-use lib.ListN.{length, take, drop, drop-of-length-le}
+use mathlib.Core.List.{List, [], _∷_, _++_, append-nil, nil≢cons}
+use lib.Dec.{leb}
+use lib.ListN.{length, take, drop-of-length-le}
 use lib.Seq.{take-length}
 use borrow.Author.Tests.{ne-eqb}
 use Rattle.laws.specs.Base.{pick}
 use Rattle.message.specs.Message.{Bytes}
 use Rattle.record.specs.File.{fileBytes, limit}
 use Rattle.session.specs.Step as session
-use Rattle.session.specs.declared.Point.the-variants as point
-use Rattle.delivery.specs.Recording.{TimedRecord, Recording, records, time, totalOf, greater, All, Valid}
-use Rattle.delivery.specs.Sender.{Place, Sent, hello, accept, restart, timed, exit, rest, messages, Says, Lines}
-use Rattle.delivery.specs.Host.{frames, Drained, drain, cutAll, Answer, toTick, toMessage, Desk, handAll}
-use Rattle.delivery.specs.World.{Connection, World, file, fresh, Event, opening, bytes, tick, arrival, break, withConnection, areaOf, opened, put, desk, settled, cameIn, latestAfter, arrived, inside, outside, happens, run, Fresh, Proper, AllProper}
+use Rattle.delivery.specs.Recording.{TimedRecord, Recording, records, time, greater, All, Valid}
+use Rattle.delivery.specs.Sender.{Place, Sent, accept, restart, timed, exit, rest, messages, Says, Lines}
+use Rattle.delivery.specs.Host.{frames, Answer, toTick, toMessage, Desk}
+use Rattle.delivery.specs.World.{Connection, World, fresh, Event, opening, bytes, tick, arrival, break, withConnection, areaOf, opened, desk, settled, cameIn, arrived, inside, outside, happens, run, Fresh, Proper, AllProper}
 use Rattle.delivery.specs.Demand.{Given, Listed, after}
 use Rattle.delivery.specs.Progress.{Sendable, underWay, TellsEnd, Done, GoesOn, Progress}
-use Rattle.delivery.proofs.Totals.{later}
 use Rattle.delivery.proofs.Restarting.{restartable}
 use Rattle.delivery.proofs.Cutting.{Short, drain-short, none-left}
 use Rattle.delivery.proofs.Files.{all-map}
 use Rattle.delivery.proofs.Desk.{AnswerOk, Lead, Stage, beginning, resuming, logging, over, Inv}
 use Rattle.delivery.proofs.Runs.{Whole, Link, LinkOk, WorldOk, fresh-ok, run-ok, LatestOk}
-use mathlib.Core.Logic.{_⊎_, inl, inr}
 
 -- ---- lists one behind the other
 

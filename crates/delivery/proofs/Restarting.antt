@@ -1,16 +1,16 @@
 -- There is a message for a restart at each point within the limit: the one that a writer writes.
-use Prim.Native.Nat.{ℕ, zero, suc, _+_, _*_, _/_, _%_, _≤_, _<_}
+use Prim.Native.Nat.{ℕ, zero, suc, _+_, _*_, _/_, _%_, _≤_}
 use native.Mathlib.Omega.{arith}
-use mathlib.Core.Path.{_≡_, refl, ap, _∙_}
+use mathlib.Core.Path.{_≡_}
 use mathlib.Core.Bool.{Bool, true, false}
 use mathlib.Core.List.{List, [], _∷_, _++_}
 use lib.IntN.{pos}
 use lib.ListN.{length, length-append}
 use lib.Dec.{ltb, eqb}
 use borrow.Author.Tests.{lt-ltb, le-leb}
-use Rattle.laws.specs.Base.{pick, both}
+use Rattle.laws.specs.Base.{pick}
 use Rattle.message.specs.Signed.{signed, int64, int32}
-use Rattle.message.specs.Message.{Bytes, Restart, TimeSpec}
+use Rattle.message.specs.Message.{Bytes, Restart}
 use Rattle.range.specs.Range.{upTo, sized, dateFits, momentFits, restartFits}
 use Rattle.wire.specs.Read.{value, clientMessage}
 use Rattle.written.specs.Pieces.{Piece, some, bytes, text, varint, varintFrom, head, encode, encodeAll}

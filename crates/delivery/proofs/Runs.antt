@@ -1,9 +1,9 @@
 -- The invariant of the world, and that each event keeps it.
-use Prim.Native.Nat.{ℕ, zero, suc, _+_, _≤_, _<_}
+use Prim.Native.Nat.{ℕ, zero, suc, _≤_}
 use native.Mathlib.Omega.{arith}
-use mathlib.Core.Path.{_≡_, refl, ap, sym, _∙_}
+use mathlib.Core.Path.{_≡_, refl, ap, _∙_}
 use mathlib.Core.Logic.{_⊎_, inl, inr}
-use mathlib.Core.Bool.{Bool, true, false, not}
+use mathlib.Core.Bool.{Bool, true, false}
 use mathlib.Core.Option.{Option, none, some}
 use mathlib.Core.List.{List, [], _∷_, _++_, append-assoc, append-nil, map}
 use lib.Dec.{eqb}
@@ -12,7 +12,7 @@ use borrow.Author.Tests.{eq-eqb, eqb-true, eqb-false}
 use Rattle.laws.specs.Base.{pick}
 use Rattle.message.specs.Message.{Bytes, Client}
 use Rattle.wire.specs.Read.{Reading, clientMessage}
-use Rattle.record.specs.Record.{Record, recordBytes}
+use Rattle.record.specs.Record.{recordBytes}
 use Rattle.record.specs.File.{fileBytes, total}
 use Rattle.record.proofs.Records.{length-record}
 use Rattle.session.specs.Step as session
@@ -20,20 +20,19 @@ use Rattle.session.specs.Step.{loggingPoint, pointIn}
 use Rattle.session.specs.Answer.{mayOpen}
 use Rattle.session.specs.declared.State.{State}
 use Rattle.session.specs.declared.State.the-variants.{New, Greeted, Logging, EventsOnly, Closed}
-use Rattle.session.specs.declared.Session.{Session}
 use Rattle.session.specs.declared.Mark.{Mark}
 use Rattle.session.specs.declared.Mark.the-variants as mark
 use Rattle.session.specs.declared.Point.{Point}
 use Rattle.session.specs.declared.Point.the-variants as point
-use Rattle.delivery.specs.Recording.{TimedRecord, Recording, acceptRecord, recordOf, exitRecord, records, totalOf, All, Valid}
-use Rattle.delivery.specs.Sender.{Place, Sent, hello, accept, restart, rest, messages, withHello, Says, Lines}
-use Rattle.delivery.specs.Host.{frames, Drained, cutAll, booked, WholeRestart, Answer, toTick, toMessage, Desk, hand, handAll}
-use Rattle.delivery.specs.World.{Connection, World, file, fresh, Event, opening, bytes, tick, arrival, break, withConnection, areaOf, opened, put, desk, settled, cameIn, tickAnswers, latestAfter, stoppedAfter, arrived, inside, outside, happens, run, Fresh, Proper, AllProper}
-use Rattle.delivery.proofs.Totals.{later, greater-is}
+use Rattle.delivery.specs.Recording.{TimedRecord, Recording, acceptRecord, recordOf, exitRecord, records, All, Valid}
+use Rattle.delivery.specs.Sender.{Place, Sent, accept, messages, withHello, Lines}
+use Rattle.delivery.specs.Host.{frames, Drained, cutAll, booked, Answer, toTick, toMessage, Desk, hand, handAll}
+use Rattle.delivery.specs.World.{Connection, World, fresh, Event, opening, bytes, tick, arrival, break, withConnection, opened, put, desk, settled, cameIn, tickAnswers, stoppedAfter, arrived, inside, outside, happens, run, Fresh, Proper, AllProper}
+use Rattle.delivery.proofs.Totals.{greater-is}
 use Rattle.delivery.proofs.Cutting.{Fits, Left, drained}
 use Rattle.delivery.proofs.Files.{all-append, all-right}
 use Rattle.delivery.proofs.Areas.{Lies}
-use Rattle.delivery.proofs.Desk.{Good, PointOk, AnswerOk, Quiet, MarkOk, Lead, Logs, Stage, beginning, resuming, logging, over, RestartOk, Inv, reads-some, all-handed}
+use Rattle.delivery.proofs.Desk.{Good, PointOk, AnswerOk, Quiet, MarkOk, Lead, Stage, beginning, resuming, logging, over, RestartOk, Inv, reads-some, all-handed}
 
 -- the sender's latest point, seen from its area
 abbrev placed : ℕ → Option ℕ → Option Place

@@ -1,29 +1,25 @@
 -- The session's step in each case that this sender can meet.
-use Prim.Native.Nat.{ℕ, _+_, _-_, _≤_, _<_}
+use Prim.Native.Nat.{ℕ, _+_, _-_, _≤_}
 use native.Mathlib.Omega.{arith}
 use mathlib.Core.Path.{_≡_, refl, ap, sym, _∙_}
 use mathlib.Core.Bool.{Bool, true, false}
-use mathlib.Core.List.{List, [], _∷_}
+use mathlib.Core.List.{List}
 use lib.Dec.{leb, eqb}
 use lib.ListN.{length, take}
 use borrow.Author.Tests.{le-leb, eq-eqb}
-use Rattle.laws.specs.Base.{pick, both, splice}
+use Rattle.laws.specs.Base.{pick, both}
 use Rattle.laws.proofs.Order.{both-true}
-use Rattle.encoding.specs.Items.{items}
-use Rattle.message.specs.Message as m
 use Rattle.message.specs.Message.{Bytes, Accept, Exit, Restart, Client, acceptMsg, rejectMsg, exitMsg, restartMsg, alertMsg, ioBuf, winsizeEvent, suspendEvent, helloMsg}
-use Rattle.range.specs.Range.{acceptFits, exitFits, restartFits, ioFits, windowFits, suspendFits}
+use Rattle.range.specs.Range.{acceptFits, exitFits, restartFits, ioFits}
 use Rattle.required.specs.Required.{entriesRefusal, namedKey}
-use Rattle.wire.specs.Read.{value, clientMessage}
 use Rattle.record.specs.Record.{Record, recordBytes}
-use Rattle.record.specs.File.{Records, all, none, recordsOf, fileBytes, limit, lowTotal, FileKind, unfinished, finished, recordsKind, meets, keep}
+use Rattle.record.specs.File.{all, recordsOf, fileBytes, limit, lowTotal, unfinished, finished, recordsKind, meets, keep}
 use Rattle.session.specs.State.{opening, recording, greeting, ending, alerting, turn}
-use Rattle.session.specs.Step.{Outcome, moment, refuse, taken, lengthsFit, roomFor, stored, atMark, grown, timed, entriesFirst, acceptStored, onAccept, exitStored, onExit, resumed, byKind, ofRecords, onRestart, act, inTurn, onReading, step}
+use Rattle.session.specs.Step.{moment, refuse, taken, lengthsFit, roomFor, stored, atMark, grown, timed, acceptStored, exitStored, onExit, resumed, byKind, ofRecords, onRestart, act, inTurn, onReading, step}
 use Rattle.session.specs.Answer.{mayOpen, sizesFit, storedTo, exitedTo}
 use Rattle.session.specs.declared.State.{State}
 use Rattle.session.specs.declared.State.the-variants.{New, Greeted, Logging, EventsOnly, Closed}
 use Rattle.session.specs.declared.Session.{Session}
-use Rattle.session.specs.declared.Mark.{Mark}
 use Rattle.session.specs.declared.Mark.the-variants as mark
 use Rattle.session.proofs.Turns.{opens, accept-placed}
 use Rattle.delivery.specs.Recording.{TimedRecord, io, window, suspend, Recording, acceptRecord, recordOf, exitRecord, inRange, acceptOf, Valid}

@@ -3,22 +3,21 @@ use Prim.Native.Nat.{ℕ, suc, _+_, _*_, _%_, _≤_}
 use native.Mathlib.Omega.{arith}
 use mathlib.Core.Path.{_≡_, refl, ap, sym, _∙_}
 use mathlib.Core.Bool.{Bool, true, false}
-use mathlib.Core.List.{List, [], _∷_, _++_, head-eq-of-cons-eq, tail-eq-of-cons-eq}
+use mathlib.Core.List.{[], _++_, head-eq-of-cons-eq, tail-eq-of-cons-eq}
 use lib.IntN.{ℤ, pos, negsuc}
-use lib.Dec.{leb, eqb}
-use lib.ListN.{length, take, drop, getD, length-append}
+use lib.Dec.{leb}
+use lib.ListN.{length, take, drop, length-append}
 use lib.Seq.{take-at, drop-at}
 use borrow.Author.Tests.{leb-true, le-leb, eq-eqb, ne-eqb}
 use Rattle.laws.specs.Base.{pick, both}
 use Rattle.laws.proofs.Order.{both-true}
-use Rattle.message.specs.Message as m
 use Rattle.message.specs.Message.{Bytes, TimeSpec, Timed, WindowSize, Exit}
 use Rattle.range.specs.Range as g
 use Rattle.range.specs.Range.{upTo, sized, dateFits, momentFits, ioFits, windowFits, suspendFits}
 use Rattle.record.specs.Digits.{digits, value}
 use Rattle.record.specs.Record as k
 use Rattle.record.specs.Record.{second, Record, windowBytes, exitBytes, isTimed, timedFits}
-use Rattle.record.specs.File.{limit, timeOf, total, mayFollow, mayEnd}
+use Rattle.record.specs.File.{limit, timeOf, mayFollow, mayEnd}
 use Rattle.record.proofs.Numbers.{length-digits, value-digits}
 use Rattle.record.proofs.Reading.{InRange}
 use Rattle.session.specs.Step.{natural, moment}

@@ -47,7 +47,7 @@ abbrev pub cutAll : Bytes → Drained
 cutAll b = drain (length b) b
 
 -- ---- the book. "A record's whole message at the host adds 1 to its area's n; a whole restart at T makes that n count the
--- recording's accept and its timed records with total at most T."
+-- recording's accept and its timed records with total at most T." Every accept of this sender announces I/O, so it is a record's.
 
 unfoldable pub countedMember : Recording → Client → ℕ → ℕ
 countedMember R (acceptMsg a) n = suc n

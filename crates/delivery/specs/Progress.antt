@@ -4,10 +4,9 @@ use Prim.Native.Nat.{ℕ, _<_}
 use mathlib.Core.Path.{_≡_}
 use mathlib.Core.Bool.{true}
 use mathlib.Core.Option.{Option, none, some}
-use mathlib.Core.List.{List, [], _∷_, _++_}
+use mathlib.Core.List.{List, [], _++_}
 use Rattle.message.specs.Message.{Bytes}
 use Rattle.record.specs.File.{fileBytes}
-use Rattle.session.specs.declared.Point.{Point}
 use Rattle.session.specs.declared.Point.the-variants as point
 use Rattle.delivery.specs.Recording.{TimedRecord, Recording, records, totalOf, All}
 use Rattle.delivery.specs.Sender.{accept, timed, exit, Says}

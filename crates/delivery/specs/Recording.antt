@@ -1,7 +1,7 @@
 -- A recording. The request: "Take any recording: one accept that announces I/O, timed records, one exit, all valid, its delays
 -- summing within the limit". Its values are those of the messages that bring it; its records are the ones that document 01 gives
 -- for them.
-use Prim.Native.Nat.{ℕ, zero, suc, _+_, _≤_}
+use Prim.Native.Nat.{ℕ, suc, _+_, _≤_}
 use mathlib.Core.Path.{_≡_}
 use mathlib.Core.Bool.{Bool, true}
 use mathlib.Core.List.{List, [], _∷_, _++_, map}

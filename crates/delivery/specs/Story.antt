@@ -3,8 +3,8 @@
 -- the next restart is refused with "finished", and the sender stops.
 use Prim.Native.Nat.{ℕ}
 use mathlib.Core.Path.{_≡_}
-use mathlib.Core.Bool.{Bool, true, false}
-use mathlib.Core.Option.{Option, none, some}
+use mathlib.Core.Bool.{true, false}
+use mathlib.Core.Option.{some}
 use mathlib.Core.List.{List, [], _∷_, _++_}
 use lib.IntN.{pos}
 use lib.ListN.{drop, replicate}
@@ -12,9 +12,7 @@ use Rattle.message.specs.Message.{Bytes}
 use Rattle.record.specs.File.{fileBytes}
 use Rattle.session.specs.Examples as e
 use Rattle.delivery.specs.Recording.{Recording, TimedRecord, io, records}
-use Rattle.delivery.specs.Sender.{Place}
-use Rattle.delivery.specs.Host.{WholeRestart}
-use Rattle.delivery.specs.World.{World, Event, opening, bytes, tick, arrival, break, file}
+use Rattle.delivery.specs.World.{Event, opening, bytes, tick, arrival, break, file}
 use Rattle.delivery.specs.Demand.{Given, Listed, after}
 
 -- ttyout "hi" after a delay of some seconds
