@@ -1,0 +1,12 @@
+pub mod Totals
+pub mod Cutting
+pub mod Values
+pub mod Files
+pub mod Steps
+pub mod Areas
+pub mod Desk
+pub mod Runs
+pub mod Demand
+pub mod Story
+pub mod Restarting
+pub mod Progress

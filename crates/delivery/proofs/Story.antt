@@ -1,0 +1,153 @@
+-- The story computes.
+use Prim.Native.Nat.{ℕ}
+use native.Mathlib.Omega.{arith}
+use mathlib.Core.Path.{_≡_, refl}
+use mathlib.Core.List.{[], _∷_}
+use lib.IntN.{pos}
+use lib.ListN.{take}
+use Rattle.field.specs.Varint.{varintFrom}
+use Rattle.field.specs.Schema.{schema, kindOf, takes}
+use Rattle.field.specs.Field.{tagFits, tagOf, tagAt, fixedAt, numberOf, partOf, payloadAt}
+use Rattle.encoding.specs.Check.{stepOf, stepFrom, stepAt}
+use Rattle.encoding.specs.Check.{before, onStep, checkFrom, checkAt}
+use Rattle.encoding.specs.Fields.{fieldOf, fieldFrom, fieldAt, onField, fieldsFrom, fieldsAt, among}
+use Rattle.encoding.specs.Items as i
+use Rattle.encoding.specs.Items.{items, lastFrom, bytesOf, everyBytes}
+use Rattle.message.specs.Signed.{signed, int64, int32, bool}
+use Rattle.message.specs.Message as m
+use Rattle.message.specs.Message.{timeSpec, timeField, valueOf, entry, entries, timed, clientMember}
+use Rattle.range.specs.Range as g
+use Rattle.range.specs.Range.{upTo, sized, dateFits, momentFits, isSet, entryFits, entriesFit, ioFits}
+use Rattle.required.specs.Required as q
+use Rattle.wire.specs.Read.{after, member, clientMessage}
+use Rattle.frame.specs.Frame.{lengthOf, cutOf}
+use Rattle.record.specs.Digits.{digits, valueFrom}
+use Rattle.record.specs.Record.{packed, headerBytes, recordBytes, exitBytes, isTimed, timedFits}
+use Rattle.record.specs.Record as k
+use Rattle.record.specs.File as f
+use Rattle.laws.specs.Base.{splice}
+use Rattle.session.specs.State as t
+use Rattle.session.specs.Step as s
+use Rattle.delivery.specs.Recording as r
+use Rattle.delivery.specs.Sender as d
+use Rattle.delivery.specs.Host as h
+use Rattle.delivery.specs.World as w
+use Rattle.delivery.specs.Demand as x
+use Rattle.delivery.specs.Story as o
+use Rattle.delivery.proofs.Demand.{demand-3}
+
+-- the restart of the log "a" at one second
+abbrev at-one : m.Restart
+at-one = record { logId = 0x61 ∷ []; resumePoint = record { seconds = pos 1; nanoseconds = pos 0 } }
+
+pub story : o.Story
+unfolding varintFrom schema kindOf takes tagFits tagOf tagAt fixedAt numberOf partOf payloadAt stepOf stepFrom stepAt before onStep checkFrom checkAt fieldOf fieldFrom fieldAt onField fieldsFrom fieldsAt among items lastFrom bytesOf everyBytes i.numberOf signed int64 int32 bool timeSpec timeField valueOf entry entries timed clientMember m.accept m.exit m.restart m.clientHello after member clientMessage upTo sized dateFits momentFits isSet entryFits entriesFit ioFits g.acceptFits g.exitFits g.restartFits q.sameBytes q.keyBytes q.lastFrom q.stringOrNone q.typesFrom q.has q.missingFrom q.entriesRefusal digits valueFrom packed headerBytes recordBytes exitBytes isTimed timedFits f.fileBytes f.unpacked f.recordAt f.before f.onFound f.recordsFrom f.recordsOf f.timeOf f.lowFrom f.mayFollow f.mayEnd f.restKind f.recordsKind f.meets f.keep splice t.opening t.recording t.ending t.turn s.natural s.moment s.lengthsFit s.roomFor s.atMark s.timed s.entriesFirst s.acceptStored s.onAccept s.exitStored s.onExit s.resumed s.byKind s.ofRecords s.onRestart s.act s.inTurn s.onReading s.step s.loggingPoint s.pointIn s.tick f.kindOf f.fileKind lengthOf cutOf k.exitFits t.greeting r.recordOf r.exitRecord r.acceptRecord r.records r.atMost r.greater d.rest d.messages d.member h.frame h.frames h.drainCut h.drain h.countedMember h.counted h.booked h.carries h.notedMember h.noted h.hand h.handAll w.fresh w.opened w.desk w.cameIn w.tickAnswers w.isPoint w.arrived w.inside w.outside w.happens w.run f.total r.inRange w.Proper w.AllProper
+story = record {
+  given = record {
+    valid = record {
+      announces = refl;
+      accept-in-range = refl;
+      entries-there = refl;
+      accept-small = omega arith;
+      timed-valid = (
+        record { in-range = refl; small = omega arith },
+        (record { in-range = refl; small = omega arith }, (record { in-range = refl; small = omega arith }, (record { in-range = refl; small = omega arith }, tt))),
+      );
+      exit-in-range = refl;
+      exit-small = omega arith;
+      within-limit = omega arith;
+    };
+    fits = λ a. omega arith;
+    in-range = λ a. omega arith;
+  };
+  listed = (
+    λ e. (
+      (
+        (record { fits = omega arith; read = refl }, refl),
+        (
+          record { fits = omega arith; read = refl },
+          (
+            record { fits = omega arith; read = refl },
+            (
+              record { fits = omega arith; read = refl },
+              (record { fits = omega arith; read = refl }, (record { fits = omega arith; read = refl }, tt)),
+            ),
+          ),
+        ),
+      ),
+      refl,
+    ),
+    (
+      tt,
+      (
+        tt,
+        (
+          tt,
+          (
+            tt,
+            (
+              tt,
+              (
+                tt,
+                (
+                  tt,
+                  (
+                    tt,
+                    (
+                      tt,
+                      (
+                        tt,
+                        (
+                          tt,
+                          (
+                            λ e. (
+                              (
+                                ([], record { fits = omega arith; read = refl }),
+                                (
+                                  record { values = at-one; reads = record { fits = omega arith; read = refl }; in-range = refl; is-at = refl },
+                                  (record { fits = omega arith; read = refl }, (record { fits = omega arith; read = refl }, tt)),
+                                ),
+                              ),
+                              tt,
+                            ),
+                            (
+                              tt,
+                              (
+                                tt,
+                                (
+                                  λ e. (
+                                    (
+                                      record { values = at-one; reads = record { fits = omega arith; read = refl }; in-range = refl; is-at = refl },
+                                      (record { fits = omega arith; read = refl }, (record { fits = omega arith; read = refl }, tt)),
+                                    ),
+                                    tt,
+                                  ),
+                                  (tt, (tt, (tt, tt))),
+                                ),
+                              ),
+                            ),
+                          ),
+                        ),
+                      ),
+                    ),
+                  ),
+                ),
+              ),
+            ),
+          ),
+        ),
+      ),
+    ),
+  );
+  first-book = refl;
+  first-point = refl;
+  second-book = refl;
+  second-on = refl;
+  restarts = refl;
+  stopped = refl;
+  whole = refl;
+}
+
+-- what demand 3 says of it
+told : (a : ℕ) → w.file (x.after o.blank o.recording o.story) a ≡ f.fileBytes (take (x.after o.blank o.recording o.story .book a) (r.records o.recording))
+told a = demand-3 o.blank .files o.recording (story .given) o.story (story .listed) a

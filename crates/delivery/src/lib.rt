@@ -1,0 +1,4 @@
+// Demand 3, as definitions and theorems on them: there is no code here.
+pub fn nothing() -> u8 {
+    0
+}
