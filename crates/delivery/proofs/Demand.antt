@@ -68,6 +68,6 @@ module _ (blank : ℕ → Bytes) where
   demand-3 = record {
     files = λ R g es p a. shows R g es p a;
     restarts = λ R g es p. ok R g es p .restarts-ok;
-    finished-whole = λ R g es p a h. full R g es p a h;
+    finished = λ R g es p a h. full R g es p a h;
     apart = λ R Q g h es fs p q a b x y e. same-file R Q (g .valid) (h .valid) (sym (full R g es p a x) ∙ e ∙ full Q h fs q b y);
   }

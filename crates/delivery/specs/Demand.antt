@@ -5,7 +5,8 @@ use mathlib.Core.Bool.{not}
 use mathlib.Core.List.{List}
 use lib.ListN.{length, take}
 use Rattle.message.specs.Message.{Bytes}
-use Rattle.record.specs.File.{fileBytes, finished, fileKind}
+use Rattle.record.specs.File as f
+use Rattle.record.specs.File.{fileBytes, fileKind}
 use Rattle.delivery.specs.Recording.{Recording, Valid, All, records}
 use Rattle.delivery.specs.Host.{WholeRestart}
 use Rattle.delivery.specs.World.{World, Event, AllProper, run, fresh, file}
@@ -27,7 +28,7 @@ module _ (blank : ℕ → Bytes) where
 
   -- an area's file carries an exit
   abbrev pub Carries : World → ℕ → Type 0
-  Carries w a = fileKind (file w a) ≡ finished
+  Carries w a = fileKind (file w a) ≡ f.finished
 
   pub record Demand3 : Type 0 where
     -- "each area's used bytes are exactly the recording's first n records, in order, n being the count in 01's book"
@@ -37,7 +38,7 @@ module _ (blank : ℕ → Bytes) where
     pub restarts : (R : Recording) → Given R → (es : List Event) → Listed R es
         → All (λ (r : WholeRestart). r .taken ≡ not (r .carried)) (after R es .restarts)
     -- "So a file that carries one holds every record once."
-    pub finished-whole : (R : Recording) → Given R → (es : List Event) → Listed R es → (a : ℕ)
+    pub finished : (R : Recording) → Given R → (es : List Event) → Listed R es → (a : ℕ)
         → Carries (after R es) a → file (after R es) a ≡ fileBytes (records R)
     -- "Recordings that differ in the accept's bytes or in any later record's values never give the same finished file."
     pub apart : (R Q : Recording) → Given R → Given Q → (es fs : List Event) → Listed R es → Listed Q fs → (a b : ℕ)
