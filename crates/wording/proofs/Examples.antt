@@ -1,0 +1,9 @@
+-- Each line computes to the one that issue 6 gives. Assumes nothing.
+use mathlib.Core.Path.{refl}
+use Rattle.wording.specs.Examples.{LineExamples}
+use Rattle.wording.specs.Wording.{digits, decimal, memberName, stateName, verdict, pointText, keyText, frameLine, ending, endLine}
+
+pub line-examples : LineExamples
+unfolding digits decimal memberName stateName verdict pointText keyText frameLine ending endLine
+line-examples =
+    record { taken = refl; exit = refl; refused = refl; missing = refl; whole = refl; left = refl; beyond = refl; too-long = refl }
