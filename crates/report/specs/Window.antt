@@ -8,7 +8,8 @@ use Rattle.frame.specs.Frame.{cutOf}
 use Rattle.frame.specs.declared.Cut.{Cut}
 use Rattle.frame.specs.declared.Cut.the-variants as cut
 use Rattle.session.specs.Step.{Outcome, step, opened}
-use Rattle.wording.specs.Wording.{memberOf, frameLine, endLine}
+use Rattle.words.specs.Words.{memberOf}
+use Rattle.wording.specs.Wording.{frameLine, endLine}
 use Rattle.wording.specs.declared.End.the-variants as end
 use Rattle.report.specs.declared.window.Next.{Next}
 use Rattle.report.specs.declared.window.Next.the-variants.{Wait, Frame, Beyond, Refused}

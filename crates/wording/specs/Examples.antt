@@ -8,7 +8,8 @@ use Rattle.session.specs.declared.State.the-variants.{Logging, Closed}
 use Rattle.session.specs.declared.Mark.the-variants as mark
 use Rattle.session.specs.declared.Point.{Point}
 use Rattle.session.specs.declared.Point.the-variants as point
-use Rattle.wording.specs.Wording.{text, frameLine, endLine}
+use Rattle.words.specs.Words.{text}
+use Rattle.wording.specs.Wording.{frameLine, endLine}
 use Rattle.wording.specs.declared.End.the-variants as end
 
 -- an answer, by what a line tells of it

@@ -14,9 +14,8 @@ ghost use Prim.Native.Nat.{_+_, _≤_};
 ghost use lib.ListN.{length};
 ghost use Rattle.pieces.specs.Put.{Put};
 ghost use Rattle.session.specs.Answer.{outcome};
-ghost use Rattle.wording.specs.Wording.{memberOf, heading, verdict, standing, pointText, keyText, frameLine, ending, endLine, written, lineLength};
-
-mod words;
+ghost use Rattle.words.specs.Words.{memberOf};
+ghost use Rattle.wording.specs.Wording.{heading, verdict, standing, pointText, keyText, frameLine, ending, endLine, written, lineLength};
 
 // What a replay ends with.
 pub enum End {

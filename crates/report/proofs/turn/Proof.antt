@@ -1,5 +1,6 @@
 use Rattle.session.specs.Answer.{outcome}
-use Rattle.wording.specs.Wording.{memberOf, frameLine, written, lineLength}
+use Rattle.words.specs.Words.{memberOf}
+use Rattle.wording.specs.Wording.{frameLine, written, lineLength}
 use Rattle.report.specs.Window.{answered, counted}
 use Rattle.session.specs.Step.{Outcome}
 use Rattle.laws.specs.Base.{part}

@@ -1,9 +1,9 @@
 use Rattle.encoding.specs.Fields.{memberFrom}
-use Rattle.wording.specs.Wording.{memberOf}
+use Rattle.words.specs.Words.{memberOf}
 use mathlib.Core.Path.{sym, _∙_}
 use borrow.Author.Needs.{needs}
-use Rattle.wording.proofs.words.member_of.Statement.{statement}
-use Rattle.wording.proofs.words.member_of.Tie as tie
+use Rattle.words.proofs.member_of.Statement.{statement}
+use Rattle.words.proofs.member_of.Tie as tie
 
 last-in-requires : tie.Need-last-in-requires
 last-in-requires c κs = search needs

@@ -1,16 +1,16 @@
 use lib.ListN.{length-set}
-use Rattle.wording.specs.Wording.{digits}
-use Rattle.wording.proofs.Digits.{digits-one, digits-more}
+use Rattle.words.specs.Words.{digits}
+use Rattle.words.proofs.Digits.{digits-one, digits-more}
 use Rattle.pieces.proofs.Puts.{then, nothing, put-byte, put-length}
 use native.Mathlib.Omega.{arith}
 use Prim.Native.Nat.{ℕ, _<_}
 use borrow.Fn.Kinds.{In}
 use borrow.Fn.PlainCycle.{Measures, is, falls, and}
-use Rattle.wording.proofs.words.put_digits.Reads as put-digits
-use Rattle.wording.proofs.words.put_digits.Kinds as put-digits-kinds
-use Rattle.wording.proofs.words.+put_digits.Lts-put_digits as put-digits-lts
-use Rattle.wording.proofs.words.+put_digits.{statement}
-use Rattle.wording.proofs.words.+put_digits.Tie.{close}
+use Rattle.words.proofs.put_digits.Reads as put-digits
+use Rattle.words.proofs.put_digits.Kinds as put-digits-kinds
+use Rattle.words.proofs.+put_digits.Lts-put_digits as put-digits-lts
+use Rattle.words.proofs.+put_digits.{statement}
+use Rattle.words.proofs.+put_digits.Tie.{close}
 
 abbrev μ-put-digits : Measures 1 put-digits-kinds.ps ℕ
 μ-put-digits κs a = a .1 .1 .1 .0

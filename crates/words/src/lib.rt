@@ -1,4 +1,5 @@
-// The pieces of a line, put into a buffer that has room for them: each function answers the place after what it put.
+// The words of a line: numbers in decimal, and the names of members and states. These functions are for the lines above, which
+// have seen to the room before they put anything: `put_..` requires it, and answers the place after what it put.
 use encoding::fields::Last;
 use encoding::fields::last_in;
 use pieces::part::put_raw;
@@ -7,7 +8,7 @@ ghost use mathlib.Core.Path.{_≡_};
 ghost use Prim.Native.Nat.{_+_, _≤_, _<_};
 ghost use lib.ListN.{length};
 ghost use Rattle.pieces.specs.Put.{Put};
-ghost use Rattle.wording.specs.Wording.{digits, decimal, nine, memberName, memberOf, stateName};
+ghost use Rattle.words.specs.Words.{digits, decimal, nine, memberName, memberOf, stateName};
 
 // ---- numbers
 

@@ -1,7 +1,7 @@
-use Rattle.wording.specs.Wording.{decimal}
+use Rattle.words.specs.Words.{decimal}
 use borrow.Author.Needs.{needs}
-use Rattle.wording.proofs.words.put_decimal.Statement.{statement}
-use Rattle.wording.proofs.words.put_decimal.Tie as tie
+use Rattle.words.proofs.put_decimal.Statement.{statement}
+use Rattle.words.proofs.put_decimal.Tie as tie
 
 put-digits-requires : tie.Need-put-digits-requires
 put-digits-requires c κs = search needs
