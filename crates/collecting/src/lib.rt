@@ -1,4 +1,6 @@
 // The session and the file check for C. A session is kept as 40 bytes in a slice that the caller lends.
+use collector::check_file;
+use collector::message;
 use numbers::lay_five;
 use saved::load;
 use saved::save;
@@ -6,8 +8,6 @@ use saved::state_number;
 use session::Answer;
 use session::FileCheck;
 use session::Point;
-use session::check_file;
-use session::message;
 use session::open;
 use session::tick;
 ghost use mathlib.Core.Path.{_≡_};

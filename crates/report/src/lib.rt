@@ -1,7 +1,7 @@
 // What the replay program does with the bytes at hand, and the lines that it prints. The program itself only reads, writes and
 // moves its window on.
+use collector::message;
 use session::Session;
-use session::message;
 use session::open;
 use window::Next;
 use window::decide;

@@ -22,7 +22,7 @@ use Rattle.record.proofs.Beginnings.{low-found, low-none}
 use Rattle.record.proofs.Restarts.{keep-total}
 use Rattle.session.specs.State.{Turn, to, notNow, turn}
 use Rattle.session.specs.Step.{Outcome, natural, moment, inState, refuse, lengthsFit, roomFor, atMark, grown, timed, entriesFirst, acceptStored, onAccept, onReject, exitStored, onExit, resumed, byKind, ofRecords, onRestart, act, inTurn, onReading, step}
-use Rattle.session.proofs.Restarts.{point-fits}
+use Rattle.session.proofs.Moments.{point-fits}
 use Rattle.session.specs.declared.State.{State}
 use Rattle.session.specs.declared.State.the-variants.{New, Greeted, Logging, EventsOnly, Closed}
 use Rattle.session.specs.declared.Session.{Session}

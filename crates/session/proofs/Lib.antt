@@ -2,8 +2,4 @@ pub mod Turns
 pub mod Moments
 pub mod Timed
 pub mod Stores
-pub mod Windows
-pub mod Exits
-pub mod Restarts
-pub mod Members
 pub mod Examples
