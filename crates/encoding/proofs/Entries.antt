@@ -4,7 +4,7 @@ use Prim.Native.Nat.{ℕ, _+_, _-_, _≤_, _<_}
 use native.Mathlib.Omega.{arith}
 use mathlib.Core.Path.{_≡_, refl, sym, subst, ap, _∙_}
 use mathlib.Core.List.{List, [], _∷_}
-use mathlib.Core.Bool.{true}
+use mathlib.Core.Bool.{true, false, true≢false}
 use lib.ListN.{length, getD}
 use lib.Dec.{leb, lit≤}
 use borrow.Author.Tests.{le-leb, lt-leb}
@@ -142,10 +142,16 @@ module _ (s : List ℕ) (k : ℕ) (h : Keyed s k) where
 
 -- ---- a list's strings
 
--- past one the check goes on
-pub past-string : (s : List ℕ) (at a e : ℕ) → at < length s → getD s at 0 ≡ 10 → partOf s (at + 1) (varintAt s (at + 1)) ≡ payload.Part a e
-    → (at < e) × (e ≤ length s) × (checkAt StringList s at ≡ checkAt StringList s e)
+-- from a string to the next the check goes on
+abbrev pub Passed : List ℕ → ℕ → ℕ → Type 0
+Passed s at e = (at < e) × (e ≤ length s) × (checkAt StringList s at ≡ checkAt StringList s e)
+
+pub passed : (s : List ℕ) (at a e : ℕ) → at < length s → getD s at 0 ≡ 10 → partOf s (at + 1) (varintAt s (at + 1)) ≡ payload.Part a e → Passed s at e
 unfolding tagOf tagFits takes kindOf schema payloadAt stepOf fieldOf
-past-string s at a e i b p =
+passed s at a e i b p =
     let leads : Leads StringList s at e (field.Part 1 a e) = field-leads StringList s at 1 2 (at + 1) (omega arith) (tagged s at 10 1 2 i (lit≤ tt) b refl) refl e (payload.Part a e) p refl in
     (further leads i .0, further leads i .1, checks-on leads i)
+
+-- nothing is said where the answer is false
+pub unsaid : {A : Type 0} → false ≡ true → A
+unsaid e = absurd (true≢false (sym e))
