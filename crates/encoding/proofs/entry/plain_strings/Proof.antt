@@ -46,7 +46,7 @@ loop-less : tie.Need-loop-less Inv-loop μ-loop
 loop-less c = let h = past c in omega arith
 
 loop-again : tie.Need-loop-again Inv-loop μ-loop
-loop-again c = let h = past c in (h .1 .0, sym (h .1 .1) ∙ c .before .before .before .before .before .before .before .loop .inv .1)
+loop-again c = let h = past c in (h .1, sym (h .2) ∙ c .before .before .before .before .before .before .before .loop .inv .1)
 
 enum-told : tie.Need-enum-told Inv-loop μ-loop
 enum-told c = search needs

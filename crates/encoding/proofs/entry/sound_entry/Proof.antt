@@ -1,70 +1,65 @@
+use mathlib.Core.Path.{subst}
+use Rattle.encoding.specs.Entry.{Formed}
+use Rattle.encoding.proofs.Entries.{unsaid}
 use borrow.Author.Needs.{needs}
 use Rattle.encoding.proofs.entry.sound_entry.Statement.{statement}
 use Rattle.encoding.proofs.entry.sound_entry.Tie as tie
-use Rattle.encoding.proofs.entry.sound_entry.Reads as reads
-use Rattle.encoding.proofs.entry.sound_entry.Lts as lts
-use Rattle.encoding.proofs.entry.plain_entry.Reads as plain-entry-reads
-use Rattle.encoding.proofs.entry.plain_strings.Reads as plain-strings-reads
 
--- src/entry.rt:133:11
 plain-entry-requires : tie.Need-plain-entry-requires
 plain-entry-requires c κs = search needs
 
--- src/entry.rt:134:47
 enum-told : tie.Need-enum-told
 enum-told c = search needs
 
--- src/entry.rt:135:45
 enum-told-2 : tie.Need-enum-told-2
 enum-told-2 c = search needs
 
--- src/entry.rt:136:32
 enum-known-start : tie.Need-enum-known-start
 enum-known-start c = search needs
 
--- src/entry.rt:136:57
 sub-plain-strings : tie.Need-sub-plain-strings
-sub-plain-strings c = ?
+unfolding Formed
+sub-plain-strings c = let p = c .before .before .before in
+    subst (Formed (p .before .before .args .s .now)) (c .before .start .given .1) (p .plain-entry .ensures) .0 .within
 
--- src/entry.rt:136:57
 part-plain-strings-start : tie.Need-part-plain-strings-start
-part-plain-strings-start c = ?
+unfolding Formed
+part-plain-strings-start c = let p = c .before .before .before in
+    subst (Formed (p .before .before .args .s .now)) (c .before .start .given .1) (p .plain-entry .ensures) .0 .within
 
--- src/entry.rt:136:57
 part-plain-strings-end : tie.Need-part-plain-strings-end
 part-plain-strings-end c = search needs
 
--- src/entry.rt:136:43
 plain-strings-requires : tie.Need-plain-strings-requires
 plain-strings-requires c κs = search needs
 
--- src/entry.rt:137:48
 enum-told-3 : tie.Need-enum-told-3
 enum-told-3 c = search needs
 
--- src/entry.rt:138:25
 enum-told-4 : tie.Need-enum-told-4
 enum-told-4 c = search needs
 
--- src/entry.rt:130:1
 returns : tie.Need-returns
-returns c = ?
+unfolding Formed
+returns c = let p = c .before .before in
+    λ _. subst (Formed (p .before .before .args .s .now)) (c .enum-told .given .1) (p .plain-entry .ensures) .1
 
--- src/entry.rt:130:1
 returns-2 : tie.Need-returns-2
-returns-2 c = ?
+unfolding Formed
+returns-2 c = let p = c .before .before in
+    λ _. subst (Formed (p .before .before .args .s .now)) (c .enum-told2 .given .1) (p .plain-entry .ensures) .1
 
--- src/entry.rt:130:1
 returns-3 : tie.Need-returns-3
-returns-3 c = ?
+unfolding Formed
+returns-3 c = let v = c .before .before .before in
+    let p = v .before .before in
+    λ fine. subst (Formed (p .before .before .args .s .now)) (v .start .given .1) (p .plain-entry .ensures) .1 (c .plain-strings .ensures fine)
 
--- src/entry.rt:130:1
 returns-4 : tie.Need-returns-4
-returns-4 c = ?
+returns-4 c = unsaid
 
--- src/entry.rt:130:1
 returns-5 : tie.Need-returns-5
-returns-5 c = ?
+returns-5 c = unsaid
 
 pub sound-entry-spec : {M : Type 1} → statement M
 sound-entry-spec =
