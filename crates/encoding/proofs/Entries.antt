@@ -3,32 +3,28 @@
 use Prim.Native.Nat.{ℕ, _+_, _-_, _≤_, _<_}
 use native.Mathlib.Omega.{arith}
 use mathlib.Core.Path.{_≡_, refl, sym, subst, ap, _∙_}
-use mathlib.Core.List.{List, [], _∷_}
+use mathlib.Core.List.{List, _∷_}
 use mathlib.Core.Bool.{true, false, true≢false}
 use lib.ListN.{length, getD}
-use lib.Dec.{leb, lit≤}
+use lib.Dec.{lit≤}
 use borrow.Author.Tests.{le-leb, lt-leb}
-use Rattle.laws.specs.Base.{pick, part}
+use Rattle.laws.specs.Base.{part}
 use Rattle.field.specs.Varint.{varintAt}
-use Rattle.field.specs.Schema.{kindOf, takes, schema, InfoMessage, StringList, NumberList}
+use Rattle.field.specs.Schema.{kindOf, takes, schema, InfoMessage, StringList}
 use Rattle.field.specs.Field.{tagFits, tagOf, tagAt, numberOf, partOf, payloadAt}
-use Rattle.encoding.specs.Check.{stepOf, stepAt, before, onStep, checkAt, checkOf}
-use Rattle.encoding.specs.Fields.{fieldOf, fieldAt, onField, fieldsAt, fieldsOf}
+use Rattle.encoding.specs.Check.{stepOf, checkAt, checkOf}
+use Rattle.encoding.specs.Fields.{fieldOf, fieldAt, onField, fieldsAt}
 use Rattle.encoding.specs.Entry.{Keyed, Holds, Reaches, Formed}
-use Rattle.field.specs.declared.varint.Varint.{Varint}
 use Rattle.field.specs.declared.varint.Varint.the-variants.{Value}
 use Rattle.field.specs.declared.tag.Tag.the-variants as tag
-use Rattle.field.specs.declared.payload.Payload.{Payload}
 use Rattle.field.specs.declared.payload.Payload.the-variants as payload
-use Rattle.encoding.specs.declared.check.Step.{Step}
-use Rattle.encoding.specs.declared.check.Step.the-variants as step
 use Rattle.encoding.specs.declared.check.Checked.{Checked}
 use Rattle.encoding.specs.declared.check.Checked.the-variants as checked
 use Rattle.encoding.specs.declared.fields.Field.{Field}
 use Rattle.encoding.specs.declared.fields.Field.the-variants as field
 use Rattle.encoding.specs.declared.entry.Plain.the-variants as plain
 use Rattle.field.proofs.Varints.{ends}
-use Rattle.encoding.proofs.Checks.{next, at-end}
+use Rattle.encoding.proofs.Checks.{at-end}
 use Rattle.encoding.proofs.Follow.{FieldRead, field-read, follow, none}
 use Rattle.encoding.proofs.Walk.{Leads, further, checks-on, tag-is, field-leads, field-inside, field-part, inside-on}
 

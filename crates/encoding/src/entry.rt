@@ -20,7 +20,7 @@ pub enum Plain {
     Other,
 }
 
-// Where the key ends that an entry begins with; 0 for another form.
+// Where the key ends that the entry begins with; 0 for another form.
 fn key_end(s: &[u8]) -> usize
     ensures { λ r. ⌜ ((r ≡ 0 → ⊥) → Keyed (now (s .entry)) r) ⌝ }
 {
@@ -41,7 +41,7 @@ fn key_end(s: &[u8]) -> usize
     end
 }
 
-// The form of an entry: its key, and the one value that ends it.
+// The entry's key and the one value that ends it, with what is left to check of a list.
 pub fn plain_entry(s: &[u8]) -> Plain
     ensures { λ r. ⌜ Formed (now (s .entry)) r ⌝ }
 {
@@ -96,7 +96,7 @@ pub fn plain_entry(s: &[u8]) -> Plain
     }
 }
 
-// Is this list of strings seen to be fine: each of its fields is a string.
+// True only of a list of strings (StringList) whose check is fine: each field is one of its strings. False says nothing.
 fn plain_strings(s: &[u8]) -> bool
     ensures { λ r. ⌜ (r ≡ true → checkOf StringList (now (s .entry)) ≡ Fine) ⌝ }
 {
@@ -126,7 +126,7 @@ fn plain_strings(s: &[u8]) -> bool
     true
 }
 
-// Is this entry seen to be fine. A list of numbers takes the general way: clients send none.
+// True only of an entry whose check is fine. False says nothing: a list of numbers, too, takes the general way.
 pub fn sound_entry(s: &[u8]) -> bool
     ensures { λ r. ⌜ (r ≡ true → checkOf InfoMessage (now (s .entry)) ≡ Fine) ⌝ }
 {

@@ -1,6 +1,6 @@
 use native.Mathlib.Omega.{arith}
 use mathlib.Core.Path.{sym, _∙_}
-use Rattle.encoding.specs.Entry.{Keyed, Formed}
+use Rattle.encoding.specs.Entry.{Formed}
 use Rattle.encoding.proofs.Entries.{numbered, text, texts, numbers}
 use borrow.Author.Needs.{needs}
 use Rattle.encoding.proofs.entry.plain_entry.Statement.{statement}
