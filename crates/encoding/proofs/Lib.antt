@@ -3,3 +3,4 @@ pub mod Checks
 pub mod Follow
 pub mod Walk
 pub mod Items
+pub mod Entries

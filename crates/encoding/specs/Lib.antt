@@ -1,3 +1,4 @@
 pub mod Check
+pub mod Entry
 pub mod Fields
 pub mod Items

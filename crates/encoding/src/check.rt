@@ -1,4 +1,5 @@
 // The check of any message, by the one schema.
+use crate::entry::sound_entry;
 use field::payload::Payload;
 use field::payload::number_at;
 use field::payload::payload_at;
@@ -99,10 +100,15 @@ pub enum Checked {
     Refused { refusal: u8, place: usize },
 }
 
-// The check of a message: the leftmost refusal of 2 to 5, depth first.
+// The check of a message: the leftmost refusal of 2 to 5, depth first. Most bytes of an accept are in its entries, which have a short way.
 pub fn check(message: u8, s: &[u8]) -> Checked
     ensures { λ r. ⌜ r ≡ checkOf message (now (s .entry)) ⌝ }
 {
+    if message == 11 {
+        if sound_entry(s) {
+            return Checked::Fine;
+        }
+    }
     let mut at: usize = 0;
     while at < s.len() {
         match step_at(message, s, at) {

@@ -19,6 +19,7 @@ use Rattle.encoding.proofs.check.check.Reads as check
 use Rattle.encoding.proofs.check.check.Kinds as check-kinds
 use Rattle.encoding.proofs.check.+check.Lts-check as check-lts
 use Rattle.encoding.proofs.check.step_at.Reads as step-at-reads
+use Rattle.encoding.proofs.entry.sound_entry.Reads as sound-entry-reads
 use Rattle.encoding.proofs.check.+check.{statement}
 use Rattle.encoding.proofs.check.+check.Tie.{close}
 
@@ -32,7 +33,7 @@ abbrev check-below : ℕ → In 1 check-kinds.ps
 check-below t = and 1 check-kinds.ps (falls 1 check-kinds.ps _<_ μ-check t) check.Pre
 
 abbrev cs : ℕ → check-lts.Claims
-cs t = (step-at-reads.Asked, step-at-reads.Learnt, check-below t, check.Post)
+cs t = (sound-entry-reads.Asked, sound-entry-reads.Learnt, step-at-reads.Asked, step-at-reads.Learnt, check-below t, check.Post)
 
 abbrev check-Inv-loop : check-lts.InvT-loop
 check-Inv-loop message s at₀ at = (at ≤ length s) × (checkAt message s at ≡ checkAt message s 0)
@@ -43,11 +44,11 @@ check-μ-loop message s at₀ at = length s - at
 -- after a field's step: how far it reaches, and what is left to check
 after : (t : ℕ) (c : check-lts.After-step-at (cs t) (check-at t) check.Post check-Inv-loop check-μ-loop)
     → (x : Step) → c .step-at .result ≡ x
-    → (StepRead (c .before .before .before .before .args .s .now) (c .before .before .loop .at) x)
-    × (onStep checkAt (c .before .before .before .before .args .message) (c .before .before .before .before .args .s .now) x
-    ≡ checkOf (c .before .before .before .before .args .message) (c .before .before .before .before .args .s .now))
+    → (StepRead (c .before .before .before .before .before .args .s .now) (c .before .before .loop .at) x)
+    × (onStep checkAt (c .before .before .before .before .before .args .message) (c .before .before .before .before .before .args .s .now) x
+    ≡ checkOf (c .before .before .before .before .before .args .message) (c .before .before .before .before .before .args .s .now))
 after t c x e =
-    let a = c .before .before .before .before .args in
+    let a = c .before .before .before .before .before .args in
     let l = c .before .before .loop in
     let is = sym (c .step-at .ensures) ∙ e in (
       subst (StepRead (a .s .now) (l .at)) is (step-at (a .s .now) (a .message) (l .at) (l .inv .0)),
@@ -56,7 +57,7 @@ after t c x e =
 
 -- at an embedded message: where it lies
 inside : (t : ℕ) (c : check-lts.After-known-told2 (cs t) (check-at t) check.Post check-Inv-loop check-μ-loop)
-    → StepRead (c .before .before .before .before .before .before .before .args .s .now) (c .before .before .before .before .before .loop .at)
+    → StepRead (c .before .before .before .before .before .before .before .before .args .s .now) (c .before .before .before .before .before .loop .at)
     (step.Inside (c .before .inner .given .0 .0) (c .before .inner .given .0 .1 .0) (c .before .inner .given .0 .1 .1 .0))
 inside t c = after t (c .before .before .before) _ (c .before .inner .given .1) .0
 
@@ -64,14 +65,22 @@ inside t c = after t (c .before .before .before) _ (c .before .inner .given .1) 
 afterwards : (t : ℕ) (c : check-lts.After-check (cs t) (check-at t) check.Post check-Inv-loop check-μ-loop)
     → (x : Checked) → c .check .result ≡ x
     → before (c .before .before .before .inner .given .0 .1 .0) x
-    (checkAt (c .before .before .before .before .before .before .before .before .before .args .message) (c .before .before .before .before .before .before .before .before .before .args .s .now) (c .before .before .before .inner .given .0 .1 .1 .0))
-    ≡ checkOf (c .before .before .before .before .before .before .before .before .before .args .message) (c .before .before .before .before .before .before .before .before .before .args .s .now)
+    (checkAt (c .before .before .before .before .before .before .before .before .before .before .args .message) (c .before .before .before .before .before .before .before .before .before .before .args .s .now) (c .before .before .before .inner .given .0 .1 .1 .0))
+    ≡ checkOf (c .before .before .before .before .before .before .before .before .before .before .args .message) (c .before .before .before .before .before .before .before .before .before .before .args .s .now)
 unfolding onStep
 afterwards t c x e =
     let i = c .before .before .before in
-    let a = i .before .before .before .before .before .before .args in
+    let a = i .before .before .before .before .before .before .before .args in
     ap (λ (y : Checked). before (i .inner .given .0 .1 .0) y (checkAt (a .message) (a .s .now) (i .inner .given .0 .1 .1 .0))) (sym e ∙ c .check .ensures)
     ∙ after t (i .before .before) _ (i .inner .given .1) .1
+
+check-sound-entry-requires : (t : ℕ) → check-lts.Need-sound-entry-requires (cs t) (check-at t) check.Post check-Inv-loop check-μ-loop
+check-sound-entry-requires t c κs = search needs
+
+check-returns : (t : ℕ) → check-lts.Need-returns (cs t) (check-at t) check.Post check-Inv-loop check-μ-loop
+check-returns t c = let e = c .before in
+    let m = e .before in
+    rw (m .if1 .taken) (sym (e .sound-entry .ensures (c .if2 .taken)))
 
 check-loop-holds : (t : ℕ) → check-lts.Need-loop-holds (cs t) (check-at t) check.Post check-Inv-loop check-μ-loop
 check-loop-holds t c = (omega arith, refl)
@@ -104,7 +113,7 @@ check-part-check-end t c = let h = inside t c in omega arith
 check-check-requires : (t : ℕ) → check-lts.Need-check-requires (cs t) (check-at t) check.Post check-Inv-loop check-μ-loop
 check-check-requires t c κs = let k = c .before in
     let h = inside t k in
-    let a = k .before .before .before .before .before .before .before .args in
+    let a = k .before .before .before .before .before .before .before .before .args in
     (omega (arith, length-part (a .s .now) (k .before .inner .given .0 .1 .0) (k .before .inner .given .0 .1 .1 .0) (h .1) (h .2)), tt)
 
 check-enum-told : (t : ℕ) → check-lts.Need-enum-told (cs t) (check-at t) check.Post check-Inv-loop check-μ-loop
@@ -120,28 +129,28 @@ check-loop-again-2 t c = (inside t (c .before .before .before .before) .2, after
 check-enum-known-refusal : (t : ℕ) → check-lts.Need-enum-known-refusal (cs t) (check-at t) check.Post check-Inv-loop check-μ-loop
 check-enum-known-refusal t c = search needs
 
-check-add-t20 : (t : ℕ) → check-lts.Need-add-t20 (cs t) (check-at t) check.Post check-Inv-loop check-μ-loop
-check-add-t20 t c = let ck = c .before .before .before in
+check-add-t22 : (t : ℕ) → check-lts.Need-add-t22 (cs t) (check-at t) check.Post check-Inv-loop check-μ-loop
+check-add-t22 t c = let ck = c .before .before .before in
     let i = ck .before .before .before in
     let h = inside t (ck .before .before) in
-    let a = i .before .before .before .before .before .before .args in
+    let a = i .before .before .before .before .before .before .before .args in
     let p : List ℕ = part (a .s .now) (i .inner .given .0 .1 .0) (i .inner .given .0 .1 .1 .0) in
     let q = subst (Placed p) (sym (ck .check .ensures) ∙ c .before .refusal .given .1) (placed (i .inner .given .0 .0) p 0) in
     omega (arith, length-part (a .s .now) (i .inner .given .0 .1 .0) (i .inner .given .0 .1 .1 .0) (h .1) (h .2), q)
 
-check-returns : (t : ℕ) → check-lts.Need-returns (cs t) (check-at t) check.Post check-Inv-loop check-μ-loop
+check-returns-2 : (t : ℕ) → check-lts.Need-returns-2 (cs t) (check-at t) check.Post check-Inv-loop check-μ-loop
 unfolding before
-check-returns t c = afterwards t (c .before .before .before) _ (c .before .refusal .given .1)
+check-returns-2 t c = afterwards t (c .before .before .before) _ (c .before .refusal .given .1)
 
 check-enum-known-refusal-2 : (t : ℕ) → check-lts.Need-enum-known-refusal-2 (cs t) (check-at t) check.Post check-Inv-loop check-μ-loop
 check-enum-known-refusal-2 t c = search needs
 
-check-returns-2 : (t : ℕ) → check-lts.Need-returns-2 (cs t) (check-at t) check.Post check-Inv-loop check-μ-loop
-unfolding onStep
-check-returns-2 t c = after t (c .before .before .before) _ (c .before .refusal2 .given .1) .1
-
 check-returns-3 : (t : ℕ) → check-lts.Need-returns-3 (cs t) (check-at t) check.Post check-Inv-loop check-μ-loop
-check-returns-3 t c = let a = c .before .before .before .args in
+unfolding onStep
+check-returns-3 t c = after t (c .before .before .before) _ (c .before .refusal2 .given .1) .1
+
+check-returns-4 : (t : ℕ) → check-lts.Need-returns-4 (cs t) (check-at t) check.Post check-Inv-loop check-μ-loop
+check-returns-4 t c = let a = c .before .before .before .before .args in
     sym (at-end (a .message) (a .s .now) (c .before .loop .at) (c .loop-test .left)) ∙ c .before .loop .inv .1
 
 pub +check-spec : {M : Type 1} → statement M
@@ -150,6 +159,8 @@ pub +check-spec : {M : Type 1} → statement M
     check.Post
     check-Inv-loop
     check-μ-loop
+    (check-sound-entry-requires t)
+    (check-returns t)
     (check-loop-holds t)
     (check-step-at-requires t)
     (check-enum-known-next t)
@@ -164,8 +175,8 @@ pub +check-spec : {M : Type 1} → statement M
     (check-loop-less-2 t)
     (check-loop-again-2 t)
     (check-enum-known-refusal t)
-    (check-add-t20 t)
-    (check-returns t)
-    (check-enum-known-refusal-2 t)
+    (check-add-t22 t)
     (check-returns-2 t)
+    (check-enum-known-refusal-2 t)
     (check-returns-3 t)
+    (check-returns-4 t)

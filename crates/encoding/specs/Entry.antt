@@ -1,0 +1,41 @@
+-- The form in which clients send an entry (an InfoMessage): the key, then one value, and nothing else. It has a short way.
+use Prim.Native.Nat.{ℕ, _≤_, _<_}
+use mathlib.Core.Path.{_≡_}
+use mathlib.Core.List.{List, [], _∷_}
+use lib.ListN.{length}
+use Rattle.laws.specs.Base.{part}
+use Rattle.field.specs.Schema.{InfoMessage, StringList, NumberList}
+use Rattle.encoding.specs.Check.{stepAt, checkOf}
+use Rattle.encoding.specs.Fields.{fieldAt, fieldsOf}
+use Rattle.encoding.specs.declared.check.Step.the-variants.{Next}
+use Rattle.encoding.specs.declared.check.Checked.the-variants.{Fine}
+use Rattle.encoding.specs.declared.fields.Field.{Field}
+use Rattle.encoding.specs.declared.fields.Field.the-variants as field
+use Rattle.encoding.specs.declared.entry.Plain.{Plain}
+use Rattle.encoding.specs.declared.entry.Plain.the-variants as plain
+
+-- the entry's fields are its key, from 2 to k, and the value v
+pub record Holds (s : List ℕ) (k : ℕ) (v : Field) : Type 0 where
+  pub fields : fieldsOf s ≡ field.Part 1 2 k ∷ v ∷ []
+  pub starts : 2 ≤ k
+  pub ends : k ≤ length s
+
+-- the value's bytes go from a to the end
+pub record Reaches (s : List ℕ) (k f a : ℕ) : Type 0 where
+  pub holds : Holds s k (field.Part f a (length s))
+  pub within : a ≤ length s
+
+-- what is said of an entry holds of its bytes: those of a list are still to be checked. Nothing is said of another form.
+unfoldable pub Formed : List ℕ → Plain → Type 0
+Formed s (plain.Number k v) = Holds s k (field.Number 2 v (length s)) × (checkOf InfoMessage s ≡ Fine)
+Formed s (plain.Text k a) = Reaches s k 3 a × (checkOf InfoMessage s ≡ Fine)
+Formed s (plain.Texts k a) = Reaches s k 4 a × (checkOf StringList (part s a (length s)) ≡ Fine → checkOf InfoMessage s ≡ Fine)
+Formed s (plain.Numbers k a) = Reaches s k 5 a × (checkOf NumberList (part s a (length s)) ≡ Fine → checkOf InfoMessage s ≡ Fine)
+Formed s plain.Other = Unit
+
+-- an entry begins with its key, from 2 to k, and goes on
+pub record Keyed (s : List ℕ) (k : ℕ) : Type 0 where
+  pub steps : stepAt InfoMessage s 0 ≡ Next k
+  pub reads : fieldAt s 0 ≡ field.Part 1 2 k
+  pub starts : 2 ≤ k
+  pub goes-on : k < length s
