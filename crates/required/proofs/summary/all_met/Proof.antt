@@ -1,23 +1,24 @@
+use Prim.Native.Nat.{ℕ}
+use native.Mathlib.Omega.{arith}
+use mathlib.Core.Path.{_≡_}
+use mathlib.Core.Bool.{true}
+use Rattle.required.specs.Summary.{isMet}
+use Rattle.required.proofs.Seens.{each-key}
 use Rattle.required.proofs.summary.all_met.Statement.{statement}
 use Rattle.required.proofs.summary.all_met.Tie as tie
-use Rattle.required.proofs.summary.all_met.Reads as reads
-use Rattle.required.proofs.summary.all_met.Lts as lts
 
--- src/summary.rt:108:17
 returns : tie.Need-returns
-returns c = ?
+unfolding isMet
+returns c = λ e. each-key _ (c .before .before .if1 .taken) (c .before .if2 .taken) (c .if3 .taken) e
 
--- src/summary.rt:110:13
 returns-2 : tie.Need-returns-2
-returns-2 c = ?
+returns-2 c = λ e. let z : _≡_ {A = ℕ} 0 1 = cc in absurd (omega arith)
 
--- src/summary.rt:112:9
 returns-3 : tie.Need-returns-3
-returns-3 c = ?
+returns-3 c = λ e. let z : _≡_ {A = ℕ} 0 1 = cc in absurd (omega arith)
 
--- src/summary.rt:102:1
 returns-4 : tie.Need-returns-4
-returns-4 c = ?
+returns-4 c = λ e. let z : _≡_ {A = ℕ} 0 1 = cc in absurd (omega arith)
 
 pub all-met-spec : {M : Type 1} → statement M
 all-met-spec = tie.close (tie.spec returns returns-2 returns-3 returns-4)

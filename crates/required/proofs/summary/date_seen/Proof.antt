@@ -1,17 +1,22 @@
+use Prim.Native.Nat.{_%_}
+use mathlib.Core.Path.{sym, ap, _∙_}
+use lib.Dec.{lit≤}
+use Rattle.message.specs.Message.{TimeSpec}
+use Rattle.message.specs.Places.{timeValue}
+use Rattle.message.specs.Signed.{int32}
+use Rattle.range.specs.Range.{dateFits}
+use Rattle.range.proofs.Signs.{up-to}
 use borrow.Author.Needs.{needs}
 use Rattle.required.proofs.summary.date_seen.Statement.{statement}
 use Rattle.required.proofs.summary.date_seen.Tie as tie
-use Rattle.required.proofs.summary.date_seen.Reads as reads
-use Rattle.required.proofs.summary.date_seen.Lts as lts
-use Rattle.message.proofs.time_spec_in.Reads as time-spec-in-reads
 
--- src/summary.rt:159:5
 time-spec-in-requires : tie.Need-time-spec-in-requires
 time-spec-in-requires c κs = search needs
 
--- src/summary.rt:156:1
 returns : tie.Need-returns
-returns c = ?
+unfolding dateFits timeValue int32
+returns c = let t = c .before .time-spec-in in
+    sym (up-to 999999999 2147483648 (t .result .nanos % 4294967296) (lit≤ tt)) ∙ ap (λ (x : TimeSpec). dateFits x) (t .ensures)
 
 pub date-seen-spec : {M : Type 1} → statement M
 date-seen-spec = tie.close (tie.spec time-spec-in-requires returns)

@@ -1,38 +1,36 @@
+use native.Mathlib.Omega.{arith}
+use lib.Dec.{lit≤}
+use Rattle.laws.proofs.Parts.{length-part}
+use Rattle.required.specs.Summary.{EntrySeen, KeySeen}
+use Rattle.required.proofs.Seens.{string-passes}
 use borrow.Author.Needs.{needs}
 use Rattle.required.proofs.summary.string_seen.Statement.{statement}
 use Rattle.required.proofs.summary.string_seen.Tie as tie
-use Rattle.required.proofs.summary.string_seen.Reads as reads
-use Rattle.required.proofs.summary.string_seen.Lts as lts
-use Rattle.required.proofs.summary.key_number.Reads as key-number-reads
-use Rattle.required.proofs.summary.with_key.Reads as with-key-reads
 
--- src/summary.rt:123:53
 sub-key-number : tie.Need-sub-key-number
 sub-key-number c = search needs
 
--- src/summary.rt:123:53
 part-key-number-start : tie.Need-part-key-number-start
 part-key-number-start c = search needs
 
--- src/summary.rt:123:53
 part-key-number-end : tie.Need-part-key-number-end
 part-key-number-end c = search needs
 
--- src/summary.rt:123:42
 key-number-requires : tie.Need-key-number-requires
 key-number-requires c κs = search needs
 
--- src/summary.rt:123:27
 with-key-requires : tie.Need-with-key-requires
 with-key-requires c κs = search needs
 
--- src/summary.rt:123:9
 returns : tie.Need-returns
-returns c = ?
+returns c = let k = c .before in
+    let a = k .before .before .before .before .args in
+    let l = length-part (a .s .now) 2 (a .key) (omega arith) (omega arith) in
+    string-passes _ _ _ (omega arith) (k .key-number .ensures) _ (c .with-key .ensures)
 
--- src/summary.rt:118:1
 returns-2 : tie.Need-returns-2
-returns-2 c = ?
+unfolding KeySeen EntrySeen
+returns-2 c = λ v e. tt
 
 pub string-seen-spec : {M : Type 1} → statement M
 string-seen-spec =
