@@ -1,191 +1,249 @@
+use Prim.Native.Nat.{_+_, _-_}
+use native.Mathlib.Omega.{arith}
+use mathlib.Core.Path.{refl, sym, subst, _∙_}
+use lib.ListN.{length}
+use lib.Dec.{lit≤}
+use borrow.Author.Needs.{needs}
+use Rattle.field.specs.Field.{tagFits, tagOf}
+use Rattle.message.specs.Signed.{bool}
+use Rattle.required.specs.Summary.{EntrySeen, Summarised}
+use Rattle.required.proofs.Summaries.{part-lies, number-lies, part-item, number-item, Told, start, flagged, dated, entered, finish}
 use Rattle.required.proofs.summary.summary_in.Statement.{statement}
 use Rattle.required.proofs.summary.summary_in.Tie as tie
-use Rattle.required.proofs.summary.summary_in.Reads as reads
-use Rattle.required.proofs.summary.summary_in.Lts as lts
-use Rattle.field.proofs.payload.number_at.Reads as number-at-reads
-use Rattle.field.proofs.payload.part_at.Reads as part-at-reads
-use Rattle.laws.proofs.wide.Reads as wide-reads
-use Rattle.required.proofs.summary.all_met.Reads as all-met-reads
-use Rattle.required.proofs.summary.date_seen.Reads as date-seen-reads
-use Rattle.required.proofs.summary.entry_seen.Reads as entry-seen-reads
 
 abbrev Inv-loop : tie.InvT-loop
-Inv-loop s at₀ expect₀ keys₀ at expect keys = ?
+Inv-loop s at₀ expect₀ keys₀ at expect keys = Told s at expect keys
 
 abbrev μ-loop : tie.MeasureT-loop
-μ-loop s at₀ expect₀ keys₀ at expect keys = ?
+μ-loop s at₀ expect₀ keys₀ at expect keys = length s - at
 
--- src/summary.rt:180:5
 loop-holds : tie.Need-loop-holds Inv-loop μ-loop
-loop-holds c = ?
+loop-holds c = start _
 
--- src/summary.rt:181:24
 shared-slice-read-wide : tie.Need-shared-slice-read-wide Inv-loop μ-loop
-shared-slice-read-wide c = ?
+shared-slice-read-wide c = search needs
 
--- src/summary.rt:181:13
 wide-requires : tie.Need-wide-requires Inv-loop μ-loop
-wide-requires c κs = ?
+wide-requires c κs = search needs
 
--- src/summary.rt:183:32
 add-number-at : tie.Need-add-number-at Inv-loop μ-loop
-add-number-at c = ?
+add-number-at c = search needs
 
--- src/summary.rt:183:19
 number-at-requires : tie.Need-number-at-requires Inv-loop μ-loop
-number-at-requires c κs = ?
+number-at-requires c κs = search needs
 
--- src/summary.rt:184:35
 enum-known-value : tie.Need-enum-known-value Inv-loop μ-loop
-enum-known-value c = ?
+enum-known-value c = search needs
 
--- src/summary.rt:180:5
 loop-less : tie.Need-loop-less Inv-loop μ-loop
-loop-less c = ?
+loop-less c = let q = c .before in
+    let p = q .before .before in
+    let w = p .before .before in
+    let l = w .before .before in
+    let at = l .before .loop .at in
+    let s = l .before .before .before .args .s .now in
+    let h = sym (p .number-at .ensures) ∙ q .value .given .1 in
+    let z = number-lies s (at + 1) (omega arith) h in omega arith
 
--- src/summary.rt:180:5
 loop-again : tie.Need-loop-again Inv-loop μ-loop
-loop-again c = ?
+unfolding tagOf tagFits bool
+loop-again c = let q = c .before in
+    let p = q .before .before in
+    let w = p .before .before in
+    let l = w .before .before in
+    let at = l .before .loop .at in
+    let s = l .before .before .before .args .s .now in
+    let h = sym (p .number-at .ensures) ∙ q .value .given .1 in
+    flagged (l .before .loop .inv) _ _ (number-item s at (l .loop-test .taken) 24 3 0 (sym (w .wide .ensures) ∙ p .before .if1 .taken) (lit≤ tt) (λ x. refl) refl h)
 
--- src/summary.rt:189:21
 enum-told : tie.Need-enum-told Inv-loop μ-loop
-enum-told c = ?
+enum-told c = search needs
 
--- src/summary.rt:189:21
 returns : tie.Need-returns Inv-loop μ-loop
-returns c = ?
+unfolding Summarised
+returns c = tt
 
--- src/summary.rt:192:21
 enum-told-2 : tie.Need-enum-told-2 Inv-loop μ-loop
-enum-told-2 c = ?
+enum-told-2 c = search needs
 
--- src/summary.rt:192:21
 returns-2 : tie.Need-returns-2 Inv-loop μ-loop
-returns-2 c = ?
+unfolding Summarised
+returns-2 c = tt
 
--- src/summary.rt:198:21
 enum-told-3 : tie.Need-enum-told-3 Inv-loop μ-loop
-enum-told-3 c = ?
+enum-told-3 c = search needs
 
--- src/summary.rt:198:21
 returns-3 : tie.Need-returns-3 Inv-loop μ-loop
-returns-3 c = ?
+unfolding Summarised
+returns-3 c = tt
 
--- src/summary.rt:202:30
 add-part-at : tie.Need-add-part-at Inv-loop μ-loop
-add-part-at c = ?
+add-part-at c = search needs
 
--- src/summary.rt:202:19
 part-at-requires : tie.Need-part-at-requires Inv-loop μ-loop
-part-at-requires c κs = ?
+part-at-requires c κs = search needs
 
--- src/summary.rt:203:33
 enum-known-start : tie.Need-enum-known-start Inv-loop μ-loop
-enum-known-start c = ?
+enum-known-start c = search needs
 
--- src/summary.rt:205:48
 sub-entry-seen : tie.Need-sub-entry-seen Inv-loop μ-loop
-sub-entry-seen c = ?
+sub-entry-seen c = let q = c .before .before in
+    let p = q .before .before in
+    let w = p .before .before in
+    let l = w .before .before in
+    let at = l .before .loop .at in
+    let s = l .before .before .before .args .s .now in
+    let h = sym (p .part-at .ensures) ∙ q .start .given .1 in
+    let z = part-lies s (at + 1) (omega arith) h in z .1
 
--- src/summary.rt:205:48
 part-entry-seen-start : tie.Need-part-entry-seen-start Inv-loop μ-loop
-part-entry-seen-start c = ?
+part-entry-seen-start c = let q = c .before .before in
+    let p = q .before .before in
+    let w = p .before .before in
+    let l = w .before .before in
+    let at = l .before .loop .at in
+    let s = l .before .before .before .args .s .now in
+    let h = sym (p .part-at .ensures) ∙ q .start .given .1 in
+    let z = part-lies s (at + 1) (omega arith) h in omega arith
 
--- src/summary.rt:205:48
 part-entry-seen-end : tie.Need-part-entry-seen-end Inv-loop μ-loop
-part-entry-seen-end c = ?
+part-entry-seen-end c = let q = c .before .before in
+    let p = q .before .before in
+    let w = p .before .before in
+    let l = w .before .before in
+    let at = l .before .loop .at in
+    let s = l .before .before .before .args .s .now in
+    let h = sym (p .part-at .ensures) ∙ q .start .given .1 in
+    let z = part-lies s (at + 1) (omega arith) h in omega arith
 
--- src/summary.rt:205:31
 entry-seen-requires : tie.Need-entry-seen-requires Inv-loop μ-loop
-entry-seen-requires c κs = ?
+entry-seen-requires c κs = search needs
 
--- src/summary.rt:206:40
 enum-known-k : tie.Need-enum-known-k Inv-loop μ-loop
-enum-known-k c = ?
+enum-known-k c = search needs
 
--- src/summary.rt:180:5
 loop-less-2 : tie.Need-loop-less-2 Inv-loop μ-loop
-loop-less-2 c = ?
+loop-less-2 c = let q = c .before .before .before .before .before .before .before in
+    let p = q .before .before in
+    let w = p .before .before in
+    let l = w .before .before in
+    let at = l .before .loop .at in
+    let s = l .before .before .before .args .s .now in
+    let h = sym (p .part-at .ensures) ∙ q .start .given .1 in
+    let z = part-lies s (at + 1) (omega arith) h in omega arith
 
--- src/summary.rt:180:5
 loop-again-2 : tie.Need-loop-again-2 Inv-loop μ-loop
-loop-again-2 c = ?
+unfolding tagOf tagFits
+loop-again-2 c = let q = c .before .before .before .before .before .before .before in
+    let p = q .before .before in
+    let w = p .before .before in
+    let l = w .before .before in
+    let at = l .before .loop .at in
+    let s = l .before .before .before .args .s .now in
+    let h = sym (p .part-at .ensures) ∙ q .start .given .1 in
+    let e = c .before .before .before in
+    let k = c .before .k .given in
+    entered (l .before .loop .inv) _ _ _ (part-item s at (l .loop-test .taken) 18 2 2 (sym (w .wide .ensures) ∙ c .before .before .before .before .before .if2 .taken) (lit≤ tt) (λ x. refl) refl h) (subst (EntrySeen _ _) (k .1) (e .entry-seen .ensures))
 
--- src/summary.rt:211:33
 enum-told-4 : tie.Need-enum-told-4 Inv-loop μ-loop
-enum-told-4 c = ?
+enum-told-4 c = search needs
 
--- src/summary.rt:211:33
 returns-4 : tie.Need-returns-4 Inv-loop μ-loop
-returns-4 c = ?
+unfolding Summarised
+returns-4 c = tt
 
--- src/summary.rt:215:38
 sub-date-seen : tie.Need-sub-date-seen Inv-loop μ-loop
-sub-date-seen c = ?
+sub-date-seen c = let q = c .before .before .before in
+    let p = q .before .before in
+    let w = p .before .before in
+    let l = w .before .before in
+    let at = l .before .loop .at in
+    let s = l .before .before .before .args .s .now in
+    let h = sym (p .part-at .ensures) ∙ q .start .given .1 in
+    let z = part-lies s (at + 1) (omega arith) h in z .1
 
--- src/summary.rt:215:38
 part-date-seen-start : tie.Need-part-date-seen-start Inv-loop μ-loop
-part-date-seen-start c = ?
+part-date-seen-start c = let q = c .before .before .before in
+    let p = q .before .before in
+    let w = p .before .before in
+    let l = w .before .before in
+    let at = l .before .loop .at in
+    let s = l .before .before .before .args .s .now in
+    let h = sym (p .part-at .ensures) ∙ q .start .given .1 in
+    let z = part-lies s (at + 1) (omega arith) h in omega arith
 
--- src/summary.rt:215:38
 part-date-seen-end : tie.Need-part-date-seen-end Inv-loop μ-loop
-part-date-seen-end c = ?
+part-date-seen-end c = let q = c .before .before .before in
+    let p = q .before .before in
+    let w = p .before .before in
+    let l = w .before .before in
+    let at = l .before .loop .at in
+    let s = l .before .before .before .args .s .now in
+    let h = sym (p .part-at .ensures) ∙ q .start .given .1 in
+    let z = part-lies s (at + 1) (omega arith) h in omega arith
 
--- src/summary.rt:215:28
 date-seen-requires : tie.Need-date-seen-requires Inv-loop μ-loop
-date-seen-requires c κs = ?
+date-seen-requires c κs = search needs
 
--- src/summary.rt:180:5
 loop-less-3 : tie.Need-loop-less-3 Inv-loop μ-loop
-loop-less-3 c = ?
+loop-less-3 c = let q = c .before .before .before .before .before .before in
+    let p = q .before .before in
+    let w = p .before .before in
+    let l = w .before .before in
+    let at = l .before .loop .at in
+    let s = l .before .before .before .args .s .now in
+    let h = sym (p .part-at .ensures) ∙ q .start .given .1 in
+    let z = part-lies s (at + 1) (omega arith) h in omega arith
 
--- src/summary.rt:180:5
 loop-again-3 : tie.Need-loop-again-3 Inv-loop μ-loop
-loop-again-3 c = ?
+unfolding tagOf tagFits
+loop-again-3 c = let q = c .before .before .before .before .before .before in
+    let p = q .before .before in
+    let w = p .before .before in
+    let l = w .before .before in
+    let at = l .before .loop .at in
+    let s = l .before .before .before .args .s .now in
+    let h = sym (p .part-at .ensures) ∙ q .start .given .1 in
+    dated (l .before .loop .inv) _ _ (part-item s at (l .loop-test .taken) 10 1 2 (sym (w .wide .ensures) ∙ c .before .before .before .if3 .taken) (lit≤ tt) (λ x. refl) refl h) (sym (c .before .date-seen .ensures) ∙ c .if4 .taken)
 
--- src/summary.rt:218:29
 returns-5 : tie.Need-returns-5 Inv-loop μ-loop
-returns-5 c = ?
+unfolding Summarised
+returns-5 c = tt
 
--- src/summary.rt:221:25
 returns-6 : tie.Need-returns-6 Inv-loop μ-loop
-returns-6 c = ?
+unfolding Summarised
+returns-6 c = tt
 
--- src/summary.rt:225:21
 enum-told-5 : tie.Need-enum-told-5 Inv-loop μ-loop
-enum-told-5 c = ?
+enum-told-5 c = search needs
 
--- src/summary.rt:225:21
 returns-7 : tie.Need-returns-7 Inv-loop μ-loop
-returns-7 c = ?
+unfolding Summarised
+returns-7 c = tt
 
--- src/summary.rt:228:21
 enum-told-6 : tie.Need-enum-told-6 Inv-loop μ-loop
-enum-told-6 c = ?
+enum-told-6 c = search needs
 
--- src/summary.rt:228:21
 returns-8 : tie.Need-returns-8 Inv-loop μ-loop
-returns-8 c = ?
+unfolding Summarised
+returns-8 c = tt
 
--- src/summary.rt:234:21
 enum-told-7 : tie.Need-enum-told-7 Inv-loop μ-loop
-enum-told-7 c = ?
+enum-told-7 c = search needs
 
--- src/summary.rt:234:21
 returns-9 : tie.Need-returns-9 Inv-loop μ-loop
-returns-9 c = ?
+unfolding Summarised
+returns-9 c = tt
 
--- src/summary.rt:239:8
 all-met-requires : tie.Need-all-met-requires Inv-loop μ-loop
-all-met-requires c κs = ?
+all-met-requires c κs = search needs
 
--- src/summary.rt:240:9
 returns-10 : tie.Need-returns-10 Inv-loop μ-loop
-returns-10 c = ?
+returns-10 c = finish (c .before .before .before .loop .inv) (c .before .before .loop-test .left) (c .before .all-met .ensures (c .if5 .taken))
 
--- src/summary.rt:169:1
 returns-11 : tie.Need-returns-11 Inv-loop μ-loop
-returns-11 c = ?
+unfolding Summarised
+returns-11 c = tt
 
 pub summary-in-spec : {M : Type 1} → statement M
 summary-in-spec =
