@@ -5,17 +5,17 @@ use mathlib.Core.Path.{_≡_, refl, sym, ap, subst, _∙_}
 use mathlib.Core.List.{List, [], _∷_, map}
 use mathlib.Core.Bool.{Bool, true, false}
 use lib.ListN.{length}
-use lib.Dec.{leb, eqb}
+use lib.Dec.{eqb}
 use borrow.Author.Tests.{le-leb, ne-eqb, eqb-true}
-use Rattle.laws.specs.Base.{pick, both, part}
+use Rattle.laws.specs.Base.{pick, part}
 use Rattle.laws.proofs.Order.{both-true}
 use Rattle.encoding.specs.Entry.{Holds}
-use Rattle.encoding.specs.Items.{Item, bytes, itemOf, items}
+use Rattle.encoding.specs.Items.{bytes, itemOf, items}
 use Rattle.encoding.specs.declared.fields.Field.{Field}
 use Rattle.message.specs.Message.{Bytes, Value, absent, numval, strval, strlistval, numlistval, Entry, entry}
 use Rattle.range.specs.Range.{isSet, entryFits}
 use Rattle.required.specs.Required.{sameBytes, keyBytes, stringOrNone}
-use Rattle.required.specs.Summary.{isMet, isString, Passed, EntrySeen, KeySeen}
+use Rattle.required.specs.Summary.{isMet, isString, EntrySeen, KeySeen}
 use Rattle.required.specs.declared.summary.Keys.{Keys}
 use Rattle.required.specs.declared.summary.Seen.{Seen}
 use Rattle.required.specs.declared.summary.Seen.the-variants as seen
@@ -83,17 +83,22 @@ module _ (d : Bytes) (keys : Keys) (n : ℕ) (h : 1 ≤ length d) (named : (k : 
   pub string-passes : (more : Keys) → ((k : ℕ) → k < 4 → isMet k more ≡ pick (eqb n k) true (isMet k keys)) → KeySeen isString d keys (seen.Fine more)
   unfolding KeySeen EntrySeen
   string-passes more e v t =
-      let y = string-set v t in
-      (in-range d v h (y .0), λ k l. record {
-        met = e k l ∙ ap (λ (q : Bool). pick q true (isMet k keys)) (sym (named k l));
-        string = ap (λ (q : Bool). pick (sameBytes d (keyBytes k)) q true) (y .1) ∙ either (sameBytes d (keyBytes k));
-      })
+      let y = string-set v t in (
+        in-range d v h (y .0),
+        λ k l. record {
+          met = e k l ∙ ap (λ (q : Bool). pick q true (isMet k keys)) (sym (named k l));
+          string = ap (λ (q : Bool). pick (sameBytes d (keyBytes k)) q true) (y .1) ∙ either (sameBytes d (keyBytes k));
+        },
+      )
 
   pub other-passes : n ≡ 4 → KeySeen isSet d keys (seen.Fine keys)
   unfolding KeySeen EntrySeen
-  other-passes e v t = (in-range d v h t, λ k l.
-      let q : sameBytes d (keyBytes k) ≡ false = named k l ∙ ne-eqb n k (omega arith) in
-      record { met = ap (λ (x : Bool). pick x true (isMet k keys)) (sym q); string = ap (λ (x : Bool). pick x (stringOrNone v) true) q })
+  other-passes e v t = (
+    in-range d v h t,
+    λ k l.
+        let q : sameBytes d (keyBytes k) ≡ false = named k l ∙ ne-eqb n k (omega arith) in
+        record { met = ap (λ (x : Bool). pick x true (isMet k keys)) (sym q); string = ap (λ (x : Bool). pick x (stringOrNone v) true) q },
+  )
 
 -- ---- an entry by its two fields
 

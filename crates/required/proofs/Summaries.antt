@@ -1,6 +1,6 @@
 -- The pass over an accept: what is left from a place on gives, with what is kept of the fields before it, what the whole gives. A field
 -- is read by its tag, then each of the three that clients send moves this on.
-use Prim.Native.Nat.{ℕ, zero, suc, _+_, _≤_, _<_}
+use Prim.Native.Nat.{ℕ, _+_, _≤_, _<_}
 use native.Mathlib.Omega.{arith}
 use mathlib.Core.Path.{_≡_, refl, sym, ap, subst, _∙_}
 use mathlib.Core.List.{List, [], _∷_, map}
@@ -25,7 +25,7 @@ use Rattle.encoding.proofs.Follow.{follow, none}
 use Rattle.elements.specs.Elements.{itemsAt}
 use Rattle.message.specs.Signed.{signed, int32, bool}
 use Rattle.message.specs.Message.{Bytes, Entry, timeSpec, timeField, entry, entries, accept}
-use Rattle.range.specs.Range.{upTo, dateFits, entryFits, entriesFit, acceptFits, bodyFits}
+use Rattle.range.specs.Range.{upTo, dateFits, entriesFit, acceptFits, bodyFits}
 use Rattle.required.specs.Required.{sameBytes, keyBytes, lastValue, stringOrNone, typesFrom, has, missingFrom, entriesRefusal}
 use Rattle.required.specs.Summary.{isMet, Passed, EntrySeen, Summarised}
 use Rattle.required.specs.declared.summary.Keys.{Keys}
@@ -202,8 +202,7 @@ module _ {s : List ℕ} {at : ℕ} {expect : Bool} {keys : Keys} (g : Told s at 
       let es : entriesAt 2 s at ≡ [] = ap (λ (is : List Item). map (λ (d : Bytes). entry (items d)) (everyBytes 2 is)) e in
       let flag : g .flag ≡ lastItem 3 3 (items s) = ap (λ (is : List Item). lastFrom 3 3 (g .flag) is) (sym e) ∙ g .flags in
       let date : g .date ≡ lastItem 1 1 (items s) = ap (λ (is : List Item). lastFrom 1 1 (g .date) is) (sym e) ∙ g .dates in
-      let fits : entriesFit (entries 2 (items s)) ≡ true = sym (g .fits) ∙ ap entriesFit es in
-      (
+      let fits : entriesFit (entries 2 (items s)) ≡ true = sym (g .fits) ∙ ap entriesFit es in (
         ap (λ (i : Item). bool (item.numberOf i)) (sym flag) ∙ g .flag-is,
         rw (← date, g .date-fits, fits),
         none-refused (entries 2 (items s)) (λ k l. key-done k (subst (λ (x : List Entry). KeyAt k (isMet k keys) x (entries 2 (items s))) es (g .each k l)) (met k l)),

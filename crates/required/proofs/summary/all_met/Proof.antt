@@ -1,7 +1,6 @@
 use Prim.Native.Nat.{ℕ}
 use native.Mathlib.Omega.{arith}
 use mathlib.Core.Path.{_≡_}
-use mathlib.Core.Bool.{true}
 use Rattle.required.specs.Summary.{isMet}
 use Rattle.required.proofs.Seens.{each-key}
 use Rattle.required.proofs.summary.all_met.Statement.{statement}

@@ -1,5 +1,4 @@
 use native.Mathlib.Omega.{arith}
-use lib.Dec.{lit≤}
 use Rattle.laws.proofs.Parts.{length-part}
 use Rattle.required.specs.Summary.{EntrySeen, KeySeen}
 use Rattle.required.proofs.Seens.{string-passes}
