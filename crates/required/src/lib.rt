@@ -1,4 +1,6 @@
 // The required entries of an accept or a reject.
+pub mod summary;
+
 use encoding::fields::Found;
 use encoding::fields::next_part;
 use encoding::fields::part_in;

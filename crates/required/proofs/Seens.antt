@@ -1,0 +1,115 @@
+-- What a key and an entry tell of the four required keys: one law over the key's number k each time.
+use Prim.Native.Nat.{ℕ, zero, suc, _≤_, _<_}
+use native.Mathlib.Omega.{arith}
+use mathlib.Core.Path.{_≡_, refl, sym, ap, subst, _∙_}
+use mathlib.Core.List.{List, [], _∷_, map}
+use mathlib.Core.Bool.{Bool, true, false}
+use lib.ListN.{length}
+use lib.Dec.{eqb}
+use borrow.Author.Tests.{le-leb, ne-eqb, eqb-true}
+use Rattle.laws.specs.Base.{pick, part}
+use Rattle.laws.proofs.Order.{both-true}
+use Rattle.encoding.specs.Entry.{Holds}
+use Rattle.encoding.specs.Items.{bytes, itemOf, items}
+use Rattle.encoding.specs.declared.fields.Field.{Field}
+use Rattle.message.specs.Message.{Bytes, Value, absent, numval, strval, strlistval, numlistval, Entry, entry}
+use Rattle.range.specs.Range.{isSet, entryFits}
+use Rattle.required.specs.Required.{sameBytes, keyBytes, stringOrNone}
+use Rattle.required.specs.Summary.{isMet, isString, EntrySeen, KeySeen}
+use Rattle.required.specs.declared.summary.Keys.{Keys}
+use Rattle.required.specs.declared.summary.Seen.{Seen}
+use Rattle.required.specs.declared.summary.Seen.the-variants as seen
+use Rattle.required.proofs.Laws.{same-length}
+
+-- what holds of the four keys holds of each
+pub each-key : (P : ℕ → Type 0) → P 0 → P 1 → P 2 → P 3 → (k : ℕ) → k < 4 → P k
+each-key P a b c d zero h = a
+each-key P a b c d (suc zero) h = b
+each-key P a b c d (suc (suc zero)) h = c
+each-key P a b c d (suc (suc (suc zero))) h = d
+each-key P a b c d (suc (suc (suc (suc k)))) h = absurd (omega arith)
+
+-- ---- a key's number
+
+same-bytes : (a b : Bytes) → sameBytes a b ≡ true → a ≡ b
+unfolding sameBytes
+same-bytes [] [] e = refl
+same-bytes [] (y ∷ ys) e = let z : _≡_ {A = ℕ} 0 1 = cc in absurd (omega arith)
+same-bytes (x ∷ xs) [] e = let z : _≡_ {A = ℕ} 0 1 = cc in absurd (omega arith)
+same-bytes (x ∷ xs) (y ∷ ys) e =
+    let h = both-true (eqb x y) (sameBytes xs ys) e in
+    rw (eqb-true x y (h .0), same-bytes xs ys (h .1))
+
+-- the required keys differ
+apart : (n : ℕ) → n < 4 → (k : ℕ) → k < 4 → sameBytes (keyBytes n) (keyBytes k) ≡ eqb n k
+unfolding sameBytes keyBytes
+apart =
+    each-key (λ (n : ℕ). (k : ℕ) → k < 4 → sameBytes (keyBytes n) (keyBytes k) ≡ eqb n k)
+    (each-key (λ (k : ℕ). sameBytes (keyBytes 0) (keyBytes k) ≡ eqb 0 k) refl refl refl refl)
+    (each-key (λ (k : ℕ). sameBytes (keyBytes 1) (keyBytes k) ≡ eqb 1 k) refl refl refl refl)
+    (each-key (λ (k : ℕ). sameBytes (keyBytes 2) (keyBytes k) ≡ eqb 2 k) refl refl refl refl)
+    (each-key (λ (k : ℕ). sameBytes (keyBytes 3) (keyBytes k) ≡ eqb 3 k) refl refl refl refl)
+
+module _ (a : Bytes) where
+  pub key-there : (n : ℕ) → n < 4 → sameBytes a (keyBytes n) ≡ true → (k : ℕ) → k < 4 → sameBytes a (keyBytes k) ≡ eqb n k
+  key-there n l e k h = ap (λ (d : Bytes). sameBytes d (keyBytes k)) (same-bytes a (keyBytes n) e) ∙ apart n l k h
+
+  pub key-other : sameBytes a (keyBytes 0) ≡ false → sameBytes a (keyBytes 1) ≡ false → sameBytes a (keyBytes 2) ≡ false → sameBytes a (keyBytes 3) ≡ false
+      → (k : ℕ) → k < 4 → sameBytes a (keyBytes k) ≡ eqb 4 k
+  key-other p q r t = each-key (λ (k : ℕ). sameBytes a (keyBytes k) ≡ eqb 4 k) p q r t
+
+  pub key-length : (k n : ℕ) → length (keyBytes k) ≡ n → (length a ≡ n → ⊥) → sameBytes a (keyBytes k) ≡ false
+  key-length k n e h = same-length a (keyBytes k) (λ l. h (l ∙ e))
+
+-- ---- an entry by its key, which is not empty and has the number n
+
+string-set : (v : Value) → isString v ≡ true → (isSet v ≡ true) × (stringOrNone v ≡ true)
+unfolding isString isSet stringOrNone
+string-set absent e = let z : _≡_ {A = ℕ} 0 1 = cc in absurd (omega arith)
+string-set (numval n) e = let z : _≡_ {A = ℕ} 0 1 = cc in absurd (omega arith)
+string-set (strval d) e = (refl, refl)
+string-set (strlistval l) e = let z : _≡_ {A = ℕ} 0 1 = cc in absurd (omega arith)
+string-set (numlistval l) e = let z : _≡_ {A = ℕ} 0 1 = cc in absurd (omega arith)
+
+in-range : (d : Bytes) (v : Value) → 1 ≤ length d → isSet v ≡ true → entryFits (record { key = d; value = v }) ≡ true
+unfolding entryFits
+in-range d v h e = rw (le-leb _ _ h, e)
+
+either : (t : Bool) → pick t true true ≡ true
+either true = refl
+either false = refl
+
+module _ (d : Bytes) (keys : Keys) (n : ℕ) (h : 1 ≤ length d) (named : (k : ℕ) → k < 4 → sameBytes d (keyBytes k) ≡ eqb n k) where
+  pub string-passes : (more : Keys) → ((k : ℕ) → k < 4 → isMet k more ≡ pick (eqb n k) true (isMet k keys)) → KeySeen isString d keys (seen.Fine more)
+  unfolding KeySeen EntrySeen
+  string-passes more e v t =
+      let y = string-set v t in (
+        in-range d v h (y .0),
+        λ k l. record {
+          met = e k l ∙ ap (λ (q : Bool). pick q true (isMet k keys)) (sym (named k l));
+          string = ap (λ (q : Bool). pick (sameBytes d (keyBytes k)) q true) (y .1) ∙ either (sameBytes d (keyBytes k));
+        },
+      )
+
+  pub other-passes : n ≡ 4 → KeySeen isSet d keys (seen.Fine keys)
+  unfolding KeySeen EntrySeen
+  other-passes e v t = (
+    in-range d v h t,
+    λ k l.
+        let q : sameBytes d (keyBytes k) ≡ false = named k l ∙ ne-eqb n k (omega arith) in
+        record { met = ap (λ (x : Bool). pick x true (isMet k keys)) (sym q); string = ap (λ (x : Bool). pick x (stringOrNone v) true) q },
+  )
+
+-- ---- an entry by its two fields
+
+module _ {s : List ℕ} {k : ℕ} {f : Field} (h : Holds s k f) where
+  held : entry (items s) ≡ entry (bytes 1 (part s 2 k) ∷ itemOf s f ∷ [])
+  unfolding items
+  held = ap (λ (fs : List Field). entry (map (itemOf s) fs)) (h .fields)
+
+  -- f is read as the value v, which passes the test
+  pub by-value : (test : Value → Bool) (v : Value) (keys : Keys) (r : Seen)
+      → entry (bytes 1 (part s 2 k) ∷ itemOf s f ∷ []) ≡ record { key = part s 2 k; value = v } → test v ≡ true
+      → KeySeen test (part s 2 k) keys r → EntrySeen (entry (items s)) keys r
+  unfolding KeySeen
+  by-value test v keys r e t g = subst (λ (x : Entry). EntrySeen x keys r) (sym (held ∙ e)) (g v t)

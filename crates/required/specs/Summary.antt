@@ -1,0 +1,52 @@
+-- What one pass over an accept in the form that clients send tells. It is said by properties: the pass is a short way to an answer that
+-- the general one, by `bodyFits` and `entriesRefusal`, would give too. Then what is known on the way, an entry after the other.
+use Prim.Native.Nat.{ℕ, _<_}
+use mathlib.Core.Path.{_≡_}
+use mathlib.Core.List.{List}
+use mathlib.Core.Bool.{Bool, true, false}
+use lib.Dec.{eqb}
+use Rattle.laws.specs.Base.{pick}
+use Rattle.field.specs.Schema.{AcceptMessage}
+use Rattle.encoding.specs.Items.{items}
+use Rattle.message.specs.Message.{Bytes, Value, absent, numval, strval, strlistval, numlistval, Entry, entries, accept}
+use Rattle.range.specs.Range.{entryFits, bodyFits}
+use Rattle.required.specs.Required.{sameBytes, keyBytes, stringOrNone, entriesRefusal}
+use Rattle.required.specs.declared.summary.Keys.{Keys}
+use Rattle.required.specs.declared.summary.Seen.{Seen}
+use Rattle.required.specs.declared.summary.Seen.the-variants as seen
+use Rattle.required.specs.declared.summary.Summary.{Summary}
+use Rattle.required.specs.declared.summary.Summary.the-variants as summary
+
+-- a sound accept has its flag, its values are in range, and its required entries are there
+unfoldable pub Summarised : List ℕ → Summary → Type 0
+Summarised s (summary.Sound x) =
+    (accept (items s) .expectIobufs ≡ x) × (bodyFits AcceptMessage (items s) ≡ true) × (entriesRefusal (entries 2 (items s)) ≡ 0)
+Summarised s summary.Other = Unit
+
+-- ---- an entry
+
+-- has an entry had the required key k
+unfoldable pub isMet : ℕ → Keys → Bool
+isMet k keys =
+    pick (eqb k 0) (keys .command) (pick (eqb k 1) (keys .runuser) (pick (eqb k 2) (keys .submithost) (keys .submituser)))
+
+-- the required key k at the entry e: it is met where it was or where e has it, and then e is a string
+pub record Passed (e : Entry) (k : ℕ) (was is : Bool) : Type 0 where
+  pub met : is ≡ pick (sameBytes (e .key) (keyBytes k)) true was
+  pub string : pick (sameBytes (e .key) (keyBytes k)) (stringOrNone (e .value)) true ≡ true
+
+-- an entry that is fine is in range, and each of the four keys passes it. Nothing is said of another.
+unfoldable pub EntrySeen : Entry → Keys → Seen → Type 0
+EntrySeen e keys (seen.Fine now) = (entryFits e ≡ true) × ((k : ℕ) → k < 4 → Passed e k (isMet k keys) (isMet k now))
+EntrySeen e keys seen.Other = Unit
+
+unfoldable pub isString : Value → Bool
+isString absent = false
+isString (numval n) = false
+isString (strval d) = true
+isString (strlistval l) = false
+isString (numlistval l) = false
+
+-- what the key d tells by itself of each entry whose value passes the test
+unfoldable pub KeySeen : (Value → Bool) → Bytes → Keys → Seen → Type 0
+KeySeen test d keys r = (v : Value) → test v ≡ true → EntrySeen (record { key = d; value = v }) keys r

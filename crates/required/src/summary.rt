@@ -1,0 +1,243 @@
+// An accept in the form in which clients send it, looked at in one pass: each tag is one byte, each entry a key and one value, each
+// required entry a string. This is a short way. An accept in another form, one that is to be refused too, takes the general one.
+use crate::same;
+use encoding::entry::Plain;
+use encoding::entry::plain_entry;
+use field::payload::Payload;
+use field::payload::number_at;
+use field::payload::part_at;
+use laws::wide;
+use message::time_spec_in;
+ghost use mathlib.Core.Path.{_≡_};
+ghost use mathlib.Core.Bool.{true};
+ghost use Prim.Native.Nat.{ℕ, _<_, _≤_};
+ghost use lib.Dec.{eqb};
+ghost use lib.ListN.{length};
+ghost use Rattle.laws.specs.Base.{pick, part};
+ghost use Rattle.encoding.specs.Items.{items};
+ghost use Rattle.message.specs.Message as m;
+ghost use Rattle.range.specs.Range.{dateFits, isSet};
+ghost use Rattle.required.specs.Required.{sameBytes, keyBytes};
+ghost use Rattle.required.specs.Summary.{isMet, isString, EntrySeen, KeySeen, Summarised};
+
+// The required keys that entries had so far.
+pub struct Keys {
+    pub command: bool,
+    pub runuser: bool,
+    pub submithost: bool,
+    pub submituser: bool,
+}
+
+// What an entry makes of them.
+pub enum Seen {
+    Fine(Keys),
+    Other,
+}
+
+// The number of a required key, 0 to 3; 4 for another. The length goes first: it tells nearly all other keys apart.
+fn key_number(a: &[u8]) -> u8
+    ensures { λ r. ⌜ ((k : ℕ) → k < 4 → sameBytes (now (a .entry)) (keyBytes k) ≡ eqb r k) ⌝ }
+{
+    if a.len() == 7 {
+        if same(a, b"command") {
+            return 0;
+        }
+        if same(a, b"runuser") {
+            return 1;
+        }
+        return 4;
+    }
+    if a.len() == 10 {
+        if same(a, b"submithost") {
+            return 2;
+        }
+        if same(a, b"submituser") {
+            return 3;
+        }
+        return 4;
+    }
+    4
+}
+
+// The keys with that of number k.
+fn with_key(keys: Keys, k: u8) -> Keys
+    ensures { λ r. ⌜ ((j : ℕ) → j < 4 → isMet j r ≡ pick (eqb k j) true (isMet j keys)) ⌝ }
+{
+    if k == 0 {
+        return Keys {
+            command: true,
+            runuser: keys.runuser,
+            submithost: keys.submithost,
+            submituser: keys.submituser,
+        };
+    }
+    if k == 1 {
+        return Keys {
+            command: keys.command,
+            runuser: true,
+            submithost: keys.submithost,
+            submituser: keys.submituser,
+        };
+    }
+    if k == 2 {
+        return Keys {
+            command: keys.command,
+            runuser: keys.runuser,
+            submithost: true,
+            submituser: keys.submituser,
+        };
+    }
+    if k == 3 {
+        return Keys {
+            command: keys.command,
+            runuser: keys.runuser,
+            submithost: keys.submithost,
+            submituser: true,
+        };
+    }
+    keys
+}
+
+// Are all of them met.
+fn all_met(keys: Keys) -> bool
+    ensures { λ r. ⌜ (r ≡ true → (k : ℕ) → k < 4 → isMet k keys ≡ true) ⌝ }
+{
+    if keys.command {
+        if keys.runuser {
+            if keys.submithost {
+                return keys.submituser;
+            }
+            return false;
+        }
+        return false;
+    }
+    false
+}
+
+// An entry that is a string, by its key, which ends at `key`.
+fn string_seen(keys: Keys, s: &[u8], key: usize) -> Seen
+    requires { ⌜ key ≤ length (now s) ⌝ }
+    ensures { λ r. ⌜ KeySeen isString (part (now (s .entry)) 2 key) keys r ⌝ }
+{
+    if 2 < key {
+        return Seen::Fine(with_key(keys, key_number(&s[2..key])));
+    }
+    Seen::Other
+}
+
+// An entry of any type, by its key: not one of the required.
+fn other_seen(keys: Keys, s: &[u8], key: usize) -> Seen
+    requires { ⌜ key ≤ length (now s) ⌝ }
+    ensures { λ r. ⌜ KeySeen isSet (part (now (s .entry)) 2 key) keys r ⌝ }
+{
+    if 2 < key {
+        if key_number(&s[2..key]) == 4 {
+            return Seen::Fine(keys);
+        }
+        return Seen::Other;
+    }
+    Seen::Other
+}
+
+// An entry, after those that had the keys.
+fn entry_seen(keys: Keys, s: &[u8]) -> Seen
+    ensures { λ r. ⌜ EntrySeen (m.entry (items (now (s .entry)))) keys r ⌝ }
+{
+    match plain_entry(s) {
+        Plain::Number { key, value: _ } => other_seen(keys, s, key),
+        Plain::Text { key, start: _ } => string_seen(keys, s, key),
+        Plain::Texts { key, start: _ } => other_seen(keys, s, key),
+        Plain::Numbers { key, start: _ } => other_seen(keys, s, key),
+        Plain::Other => Seen::Other,
+    }
+}
+
+// A submit_time: the nanoseconds alone have a range. An int32 is its number's low 32 bits.
+fn date_seen(s: &[u8]) -> bool
+    ensures { λ r. ⌜ r ≡ dateFits (m.timeSpec (items (now (s .entry)))) ⌝ }
+{
+    time_spec_in(s).nanos % 4294967296 <= 999999999
+}
+
+// What one pass over an accept in the form that clients send tells; nothing is told of another form.
+pub enum Summary {
+    Sound { expect: bool },
+    Other,
+}
+
+// An accept whose values are in range and whose required entries are there, with its expect_iobufs.
+pub fn summary_in(s: &[u8]) -> Summary
+    ensures { λ r. ⌜ Summarised (now (s .entry)) r ⌝ }
+{
+    let mut at: usize = 0;
+    let mut expect = false;
+    let mut keys = Keys {
+        command: false,
+        runuser: false,
+        submithost: false,
+        submituser: false,
+    };
+    while at < s.len() {
+        let tag = wide(s[at]);
+        if tag == 24 {
+            match number_at(s, at + 1) {
+                Payload::Number { value, next } => {
+                    expect = value != 0;
+                    at = next;
+                }
+                Payload::Fixed { next: _ } => {
+                    return Summary::Other;
+                }
+                Payload::Part { start: _, end: _ } => {
+                    return Summary::Other;
+                }
+                Payload::Refused {
+                    refusal: _,
+                    place: _,
+                } => {
+                    return Summary::Other;
+                }
+            }
+        } else {
+            match part_at(s, at + 1) {
+                Payload::Part { start, end } => {
+                    if tag == 18 {
+                        match entry_seen(keys, &s[start..end]) {
+                            Seen::Fine(k) => {
+                                keys = k;
+                                at = end;
+                            }
+                            Seen::Other => {
+                                return Summary::Other;
+                            }
+                        }
+                    } else if tag == 10 {
+                        if date_seen(&s[start..end]) {
+                            at = end;
+                        } else {
+                            return Summary::Other;
+                        }
+                    } else {
+                        return Summary::Other;
+                    }
+                }
+                Payload::Number { value: _, next: _ } => {
+                    return Summary::Other;
+                }
+                Payload::Fixed { next: _ } => {
+                    return Summary::Other;
+                }
+                Payload::Refused {
+                    refusal: _,
+                    place: _,
+                } => {
+                    return Summary::Other;
+                }
+            }
+        }
+    }
+    if all_met(keys) {
+        return Summary::Sound { expect };
+    }
+    Summary::Other
+}
