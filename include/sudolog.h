@@ -398,11 +398,8 @@ struct sudolog_client_scan {
 /* The eight bytes at p as a number, most significant byte first: how the library writes numbers. */
 static inline uint64_t sudolog_big_endian(const uint8_t *p)
 {
-    uint64_t number = 0;
-    int i;
-    for (i = 0; i < 8; i++)
-        number = number << 8 | p[i];
-    return number;
+    return (uint64_t)p[0] << 56 | (uint64_t)p[1] << 48 | (uint64_t)p[2] << 40 | (uint64_t)p[3] << 32 |
+           (uint64_t)p[4] << 24 | (uint64_t)p[5] << 16 | (uint64_t)p[6] << 8 | (uint64_t)p[7];
 }
 
 /* A pointer that the library may be handed: it takes no NULL, even with length 0. */

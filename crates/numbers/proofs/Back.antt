@@ -62,7 +62,7 @@ Bytes s = (i : ℕ) → getD s i 0 < 256
 abbrev sum : (h o n m l k j i : ℕ) → ℕ
 sum h o n m l k j i = h * 72057594037927936 + o * 281474976710656 + n * 1099511627776 + m * 4294967296 + l * 16777216 + k * 65536 + j * 256 + i
 
-apart : (h o n m l k j i : ℕ) → h < 256 → o < 256 → n < 256 → m < 256 → l < 256 → k < 256 → j < 256 → i < 256
+pub apart : (h o n m l k j i : ℕ) → h < 256 → o < 256 → n < 256 → m < 256 → l < 256 → k < 256 → j < 256 → i < 256
     → eight (sum h o n m l k j i) ≡ h ∷ o ∷ n ∷ m ∷ l ∷ k ∷ j ∷ i ∷ []
 apart h o n m l k j i bh bo bn bm bl bk bj bi =
     let e : ℕ = sum h o n m l k j i in

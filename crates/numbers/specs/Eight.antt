@@ -1,5 +1,6 @@
 -- Numbers as bytes in a buffer.
-use Prim.Native.Nat.{ℕ, _+_, _*_, _/_, _%_}
+use Prim.Native.Nat.{ℕ, _+_, _*_, _/_, _%_, _<_}
+use mathlib.Core.Path.{_≡_}
 use mathlib.Core.List.{List, [], _∷_, _++_}
 use lib.ListN.{length, getD}
 use lib.Dec.{leb}
@@ -25,3 +26,18 @@ numberAt s at =
     getD s at 0 * 72057594037927936 + getD s (at + 1) 0 * 281474976710656 + getD s (at + 2) 0 * 1099511627776
     + getD s (at + 3) 0 * 4294967296 + getD s (at + 4) 0 * 16777216 + getD s (at + 5) 0 * 65536 + getD s (at + 6) 0 * 256
     + getD s (at + 7) 0
+
+-- a number's eight bytes in the opposite order
+unfoldable pub turned : ℕ → ℕ
+turned v =
+    v % 256 * 72057594037927936 + v / 256 % 256 * 281474976710656 + v / 65536 % 256 * 1099511627776
+    + v / 16777216 % 256 * 4294967296 + v / 4294967296 % 256 * 16777216 + v / 1099511627776 % 256 * 65536
+    + v / 281474976710656 % 256 * 256 + v / 72057594037927936 % 256
+
+-- the number r is four bytes from a place on, least significant first, and each is a byte
+pub record Small (s : List ℕ) (at r : ℕ) : Type 0 where
+  pub is : r ≡ getD s at 0 + getD s (at + 1) 0 * 256 + getD s (at + 2) 0 * 65536 + getD s (at + 3) 0 * 16777216
+  pub first : getD s at 0 < 256
+  pub second : getD s (at + 1) 0 < 256
+  pub third : getD s (at + 2) 0 < 256
+  pub fourth : getD s (at + 3) 0 < 256

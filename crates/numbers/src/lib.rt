@@ -6,21 +6,34 @@ ghost use Prim.Native.Nat.{_+_, _≤_, _<_};
 ghost use lib.ListN.{length, getD};
 ghost use lib.Dec.{leb};
 ghost use Rattle.laws.specs.Base.{pick, splice};
-ghost use Rattle.numbers.specs.Eight.{eight, eights, laid, numberAt};
+ghost use Rattle.numbers.specs.Eight.{eight, eights, laid, numberAt, Small};
+
+// A number with its eight bytes in the opposite order. The compiler has one instruction for it; so numbers go to and from a buffer
+// least significant byte first, as the machine moves them at once, and are turned here.
+fn turned(v: u64) -> u64
+    ensures { λ r. ⌜ r ≡ Rattle.numbers.specs.Eight.turned v ⌝ }
+{
+    let a = v % 256 * 256 + v / 256 % 256;
+    let b = v / 65536 % 256 * 256 + v / 16777216 % 256;
+    let c = v / 4294967296 % 256 * 256 + v / 1099511627776 % 256;
+    let d = v / 281474976710656 % 256 * 256 + v / 72057594037927936 % 256;
+    (a * 65536 + b) * 4294967296 + (c * 65536 + d)
+}
 
 // Lays a number into a buffer, eight bytes, most significant first.
 fn put(out: &mut [u8], at: usize, v: u64)
     requires { ⌜ at + 8 ≤ length (now out) ⌝ }
     ensures { λ _. ⌜ now (out .exit) ≡ splice (now (out .entry)) at (eight v) ⌝ }
 {
-    out[at] = (v / 72057594037927936 % 256) as u8;
-    out[at + 1] = (v / 281474976710656 % 256) as u8;
-    out[at + 2] = (v / 1099511627776 % 256) as u8;
-    out[at + 3] = (v / 4294967296 % 256) as u8;
-    out[at + 4] = (v / 16777216 % 256) as u8;
-    out[at + 5] = (v / 65536 % 256) as u8;
-    out[at + 6] = (v / 256 % 256) as u8;
-    out[at + 7] = (v % 256) as u8;
+    let t = turned(v);
+    out[at] = (t % 256) as u8;
+    out[at + 1] = (t / 256 % 256) as u8;
+    out[at + 2] = (t / 65536 % 256) as u8;
+    out[at + 3] = (t / 16777216 % 256) as u8;
+    out[at + 4] = (t / 4294967296 % 256) as u8;
+    out[at + 5] = (t / 1099511627776 % 256) as u8;
+    out[at + 6] = (t / 281474976710656 % 256) as u8;
+    out[at + 7] = (t / 72057594037927936 % 256) as u8;
 }
 
 // Lays three numbers at the start of a buffer.
@@ -77,19 +90,22 @@ fn byte(s: &[u8], i: usize) -> u64
     wide(s[i])
 }
 
-// The number that eight bytes from a place on are.
+// The number that four bytes from a place on are, least significant first.
+fn four(s: &[u8], at: usize) -> u64
+    requires { ⌜ at + 4 ≤ length (now s) ⌝ }
+    ensures { λ r. ⌜ Small (now (s .entry)) at r ⌝ }
+{
+    let a = byte(s, at) + byte(s, at + 1) * 256;
+    let b = byte(s, at + 2) + byte(s, at + 3) * 256;
+    a + b * 65536
+}
+
+// The number that eight bytes from a place on are, most significant first.
 fn number_of(s: &[u8], at: usize) -> u64
     requires { ⌜ at + 8 ≤ length (now s) ⌝ }
     ensures { λ r. ⌜ r ≡ numberAt (now (s .entry)) at ⌝ }
 {
-    byte(s, at) * 72057594037927936
-        + byte(s, at + 1) * 281474976710656
-        + byte(s, at + 2) * 1099511627776
-        + byte(s, at + 3) * 4294967296
-        + byte(s, at + 4) * 16777216
-        + byte(s, at + 5) * 65536
-        + byte(s, at + 6) * 256
-        + byte(s, at + 7)
+    turned(four(s, at) + four(s, at + 4) * 4294967296)
 }
 
 // The same where the bytes are there; 0 where they are not.

@@ -34,7 +34,7 @@ pub enum ClientRead {
 }
 
 // The check of a client message and its last member in one walk. It does not call `step_at`: that has one caller, and is inlined there.
-pub fn client(s: &[u8]) -> ClientRead
+pub fn client_walk(s: &[u8]) -> ClientRead
     ensures { λ r. ⌜ r ≡ clientOf (now (s .entry)) ⌝ }
 {
     let mut at: usize = 0;

@@ -1,11 +1,18 @@
-use Rattle.numbers.specs.Eight.{eight}
+use Rattle.numbers.proofs.Turn.{little, little-turned}
+use Rattle.laws.specs.Base.{splice}
 use Rattle.laws.proofs.Splice.{sets-splice}
 use lib.ListN.{length-set}
+use Prim.Native.Nat.{ℕ}
+use mathlib.Core.List.{List}
+use mathlib.Core.Path.{ap, _∙_}
 use native.Mathlib.Numerals.{towards-suc}
 use native.Mathlib.Omega.{arith}
 use borrow.Author.Needs.{needs}
 use Rattle.numbers.proofs.put.Statement.{statement}
 use Rattle.numbers.proofs.put.Tie as tie
+
+turned-requires : tie.Need-turned-requires
+turned-requires c κs = search needs
 
 cast-out : tie.Need-cast-out
 cast-out c = search needs
@@ -80,12 +87,17 @@ same-length : tie.Need-same-length
 same-length c = simp length-set
 
 returns : tie.Need-returns
-returns c = let a = c .args in simp towards-suc (sets-splice (a .out .now) (a .at) (eight (a .v)) (omega arith))
+returns c =
+    let a = c .before .before .args in
+    simp towards-suc (sets-splice (a .out .now) (a .at) (little (c .turned .result)) (omega arith))
+    ∙ ap (λ (t : ℕ). splice (a .out .now) (a .at) (little t)) (c .turned .ensures)
+    ∙ ap (λ (l : List ℕ). splice (a .out .now) (a .at) l) (little-turned (a .v))
 
 pub put-spec : {M : Type 1} → statement M
 put-spec =
     tie.close
     (tie.spec
+    turned-requires
     cast-out
     slice-write-out
     cast-out-2

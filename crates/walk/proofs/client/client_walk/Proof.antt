@@ -14,8 +14,8 @@ use Rattle.laws.proofs.Parts.{length-part}
 use Rattle.encoding.proofs.Checks.{Placed, placed}
 use Rattle.encoding.proofs.Walk.{lies, misfits, bad-tag, field-stops}
 use Rattle.walk.proofs.Clients.{Told, start, finish, stop, number-passes, fixed-passes, part-passes, inside, inside-bad, other-in, io-in, io-stops, io-lies, io-bad}
-use Rattle.walk.proofs.client.client.Statement.{statement}
-use Rattle.walk.proofs.client.client.Tie as tie
+use Rattle.walk.proofs.client.client_walk.Statement.{statement}
+use Rattle.walk.proofs.client.client_walk.Tie as tie
 
 abbrev Inv-loop : tie.InvT-loop
 Inv-loop s at₀ found₀ at found = Told s at found
@@ -480,8 +480,8 @@ returns-5 c = let k = c .before in
 returns-6 : tie.Need-returns-6 Inv-loop μ-loop
 returns-6 c = finish (c .before .loop .inv) (c .loop-test .left)
 
-pub client-spec : {M : Type 1} → statement M
-client-spec =
+pub client-walk-spec : {M : Type 1} → statement M
+client-walk-spec =
     tie.close
     (tie.spec
     Inv-loop

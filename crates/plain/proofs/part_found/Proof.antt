@@ -1,0 +1,50 @@
+use mathlib.Core.Path.{sym, _∙_}
+use Rattle.plain.specs.Plain.{Finds}
+use borrow.Author.Needs.{needs}
+use Rattle.plain.proofs.part_found.Statement.{statement}
+use Rattle.plain.proofs.part_found.Tie as tie
+
+part-at-requires : tie.Need-part-at-requires
+part-at-requires c κs = search needs
+
+enum-known-start : tie.Need-enum-known-start
+enum-known-start c = search needs
+
+enum-told : tie.Need-enum-told
+enum-told c = search needs
+
+enum-told-2 : tie.Need-enum-told-2
+enum-told-2 c = search needs
+
+enum-told-3 : tie.Need-enum-told-3
+enum-told-3 c = search needs
+
+returns : tie.Need-returns
+unfolding Finds
+returns c = sym (c .before .before .before .part-at .ensures) ∙ c .before .start .given .1
+
+returns-2 : tie.Need-returns-2
+unfolding Finds
+returns-2 c = tt
+
+returns-3 : tie.Need-returns-3
+unfolding Finds
+returns-3 c = tt
+
+returns-4 : tie.Need-returns-4
+unfolding Finds
+returns-4 c = tt
+
+pub part-found-spec : {M : Type 1} → statement M
+part-found-spec =
+    tie.close
+    (tie.spec
+    part-at-requires
+    enum-known-start
+    enum-told
+    enum-told-2
+    enum-told-3
+    returns
+    returns-2
+    returns-3
+    returns-4)

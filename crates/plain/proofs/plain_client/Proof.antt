@@ -1,0 +1,65 @@
+use native.Mathlib.Omega.{arith}
+use mathlib.Core.Path.{sym, _∙_}
+use Rattle.plain.specs.Plain.{ClientSaid}
+use Rattle.plain.proofs.Plains.{one-byte, found-part}
+use borrow.Author.Needs.{needs}
+use Rattle.plain.proofs.plain_client.Statement.{statement}
+use Rattle.plain.proofs.plain_client.Tie as tie
+
+returns : tie.Need-returns
+unfolding ClientSaid
+returns c = tt
+
+shared-slice-read-wide : tie.Need-shared-slice-read-wide
+shared-slice-read-wide c = search needs
+
+wide-requires : tie.Need-wide-requires
+wide-requires c κs = search needs
+
+is-io-requires : tie.Need-is-io-requires
+is-io-requires c κs = search needs
+
+part-found-requires : tie.Need-part-found-requires
+part-found-requires c κs = search needs
+
+enum-known-start : tie.Need-enum-known-start
+enum-known-start c = search needs
+
+from-member-requires : tie.Need-from-member-requires
+from-member-requires c κs = let i = c .before .before .before .before .before .before .is-io .ensures (c .before .before .before .before .before .if2 .taken) in
+    ((i, one-byte _ 0 _ (omega (arith, c .before .before .before .before .before .before .before .before .before .if1 .left)) (c .before .before .before .before .before .before .before .wide .ensures) (omega (arith, i .most))), (found-part _ _ _ (c .before .before .before .before .part-found .ensures) _ _ (c .before .before .start .given .1), c .if3 .taken))
+
+returns-2 : tie.Need-returns-2
+returns-2 c = search needs
+
+returns-3 : tie.Need-returns-3
+unfolding ClientSaid
+returns-3 c = tt
+
+enum-told : tie.Need-enum-told
+enum-told c = search needs
+
+returns-4 : tie.Need-returns-4
+unfolding ClientSaid
+returns-4 c = tt
+
+returns-5 : tie.Need-returns-5
+unfolding ClientSaid
+returns-5 c = tt
+
+pub plain-client-spec : {M : Type 1} → statement M
+plain-client-spec =
+    tie.close
+    (tie.spec
+    returns
+    shared-slice-read-wide
+    wide-requires
+    is-io-requires
+    part-found-requires
+    enum-known-start
+    from-member-requires
+    returns-2
+    returns-3
+    enum-told
+    returns-4
+    returns-5)
