@@ -32,7 +32,7 @@ use Rattle.required.specs.declared.summary.Keys.{Keys}
 use Rattle.required.specs.declared.summary.Seen.the-variants as seen
 use Rattle.required.specs.declared.summary.Summary.the-variants as summary
 use Rattle.required.proofs.Laws.{entriesAt, all-entries, fitsFrom, fits-all}
-use Rattle.required.proofs.Seens.{each-key}
+use Rattle.required.proofs.KeyLaws.{each-key}
 
 -- ---- a field by its tag, which is one byte
 
@@ -182,7 +182,8 @@ module _ {s : List ℕ} {at : ℕ} {expect : Bool} {keys : Keys} (g : Told s at 
     each = same .1;
   }
 
-  pub entered : (d : Bytes) (n : ℕ) (more : Keys) → itemsAt s at ≡ item.bytes 2 d ∷ itemsAt s n → EntrySeen (entry (items d)) keys (seen.Fine more) → Told s n expect more
+  pub entered : (d : Bytes) (n : ℕ) (more : Keys) → itemsAt s at ≡ item.bytes 2 d ∷ itemsAt s n
+      → EntrySeen (entry (items d)) keys (seen.Fine more) → Told s n expect more
   unfolding lastFrom among entries everyBytes entriesFit EntrySeen
   entered d n more h e = let q : entriesAt 2 s at ≡ entry (items d) ∷ entriesAt 2 s n = found-entries n (item.bytes 2 d) h in record {
     flag = g .flag;

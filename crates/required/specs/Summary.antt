@@ -40,6 +40,7 @@ unfoldable pub EntrySeen : Entry → Keys → Seen → Type 0
 EntrySeen e keys (seen.Fine now) = (entryFits e ≡ true) × ((k : ℕ) → k < 4 → Passed e k (isMet k keys) (isMet k now))
 EntrySeen e keys seen.Other = Unit
 
+-- is it a string
 unfoldable pub isString : Value → Bool
 isString absent = false
 isString (numval n) = false

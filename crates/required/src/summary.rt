@@ -28,7 +28,7 @@ pub struct Keys {
     pub submituser: bool,
 }
 
-// What an entry makes of them.
+// These keys past one more entry, which is in range and a string where it has one of them; nothing is told of another.
 pub enum Seen {
     Fine(Keys),
     Other,
@@ -59,7 +59,7 @@ fn key_number(a: &[u8]) -> u8
     4
 }
 
-// The keys with that of number k.
+// The keys with that of number k met; 4 adds none.
 fn with_key(keys: Keys, k: u8) -> Keys
     ensures { λ r. ⌜ ((j : ℕ) → j < 4 → isMet j r ≡ pick (eqb k j) true (isMet j keys)) ⌝ }
 {
@@ -98,7 +98,7 @@ fn with_key(keys: Keys, k: u8) -> Keys
     keys
 }
 
-// Are all of them met.
+// True only where all four are met.
 fn all_met(keys: Keys) -> bool
     ensures { λ r. ⌜ (r ≡ true → (k : ℕ) → k < 4 → isMet k keys ≡ true) ⌝ }
 {
@@ -114,7 +114,7 @@ fn all_met(keys: Keys) -> bool
     false
 }
 
-// An entry that is a string, by its key, which ends at `key`.
+// What an entry's key, which ends at `key`, tells where the value is a string.
 fn string_seen(keys: Keys, s: &[u8], key: usize) -> Seen
     requires { ⌜ key ≤ length (now s) ⌝ }
     ensures { λ r. ⌜ KeySeen isString (part (now (s .entry)) 2 key) keys r ⌝ }
@@ -125,7 +125,7 @@ fn string_seen(keys: Keys, s: &[u8], key: usize) -> Seen
     Seen::Other
 }
 
-// An entry of any type, by its key: not one of the required.
+// What it tells where the value is of any type: an entry with a required key is left to the general way.
 fn other_seen(keys: Keys, s: &[u8], key: usize) -> Seen
     requires { ⌜ key ≤ length (now s) ⌝ }
     ensures { λ r. ⌜ KeySeen isSet (part (now (s .entry)) 2 key) keys r ⌝ }
@@ -139,7 +139,7 @@ fn other_seen(keys: Keys, s: &[u8], key: usize) -> Seen
     Seen::Other
 }
 
-// An entry, after those that had the keys.
+// What an entry tells after those that had the keys.
 fn entry_seen(keys: Keys, s: &[u8]) -> Seen
     ensures { λ r. ⌜ EntrySeen (m.entry (items (now (s .entry)))) keys r ⌝ }
 {
@@ -152,7 +152,7 @@ fn entry_seen(keys: Keys, s: &[u8]) -> Seen
     }
 }
 
-// A submit_time: the nanoseconds alone have a range. An int32 is its number's low 32 bits.
+// Is a submit_time in range: the nanoseconds alone have one. An int32 is its number's low 32 bits.
 fn date_seen(s: &[u8]) -> bool
     ensures { λ r. ⌜ r ≡ dateFits (m.timeSpec (items (now (s .entry)))) ⌝ }
 {
@@ -165,7 +165,7 @@ pub enum Summary {
     Other,
 }
 
-// An accept whose values are in range and whose required entries are there, with its expect_iobufs.
+// Sound, with its expect_iobufs, for an accept whose values are in range and whose required entries are there; Other says nothing.
 pub fn summary_in(s: &[u8]) -> Summary
     ensures { λ r. ⌜ Summarised (now (s .entry)) r ⌝ }
 {

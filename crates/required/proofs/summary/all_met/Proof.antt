@@ -2,7 +2,7 @@ use Prim.Native.Nat.{ℕ}
 use native.Mathlib.Omega.{arith}
 use mathlib.Core.Path.{_≡_}
 use Rattle.required.specs.Summary.{isMet}
-use Rattle.required.proofs.Seens.{each-key}
+use Rattle.required.proofs.KeyLaws.{each-key}
 use Rattle.required.proofs.summary.all_met.Statement.{statement}
 use Rattle.required.proofs.summary.all_met.Tie as tie
 

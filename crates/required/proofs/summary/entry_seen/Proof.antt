@@ -5,7 +5,7 @@ use Rattle.encoding.specs.Items.{lastFrom, bytesOf}
 use Rattle.message.specs.Message.{entry, valueOf}
 use Rattle.range.specs.Range.{isSet}
 use Rattle.required.specs.Summary.{isString, EntrySeen}
-use Rattle.required.proofs.Seens.{by-value}
+use Rattle.required.proofs.KeyLaws.{by-value}
 use borrow.Author.Needs.{needs}
 use Rattle.required.proofs.summary.entry_seen.Statement.{statement}
 use Rattle.required.proofs.summary.entry_seen.Tie as tie

@@ -1,7 +1,7 @@
 use native.Mathlib.Omega.{arith}
 use Rattle.laws.proofs.Parts.{length-part}
 use Rattle.required.specs.Summary.{EntrySeen, KeySeen}
-use Rattle.required.proofs.Seens.{other-passes}
+use Rattle.required.proofs.KeyLaws.{other-passes}
 use borrow.Author.Needs.{needs}
 use Rattle.required.proofs.summary.other_seen.Statement.{statement}
 use Rattle.required.proofs.summary.other_seen.Tie as tie

@@ -1,7 +1,7 @@
 use mathlib.Core.Path.{refl}
 use borrow.Author.Tests.{ne-eqb}
 use Rattle.required.specs.Summary.{isMet}
-use Rattle.required.proofs.Seens.{each-key}
+use Rattle.required.proofs.KeyLaws.{each-key}
 use Rattle.required.proofs.summary.with_key.Statement.{statement}
 use Rattle.required.proofs.summary.with_key.Tie as tie
 
