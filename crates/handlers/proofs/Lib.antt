@@ -1,3 +1,4 @@
+pub mod Contents
 pub mod Windows
 pub mod Exits
 pub mod Restarts
