@@ -7,7 +7,7 @@ use mathlib.Core.List.{List, _++_}
 use mathlib.Core.Bool.{true, false}
 use mathlib.Core.Logic.{⊎-elim}
 use lib.ListN.{length, take, drop, set, getD, List·getD-append}
-use lib.Seq.{length-take-le, getD-take, getD-append-add, paste, paste-suc, set-getD, take-length, length-paste-head}
+use lib.Seq.{length-take-le, getD-take, getD-append-add, paste, paste-zero, paste-suc, set-getD, take-length, length-paste-head}
 use Rattle.laws.specs.Base.{splice}
 use Rattle.laws.proofs.Order.{lt-or-le}
 use borrow.Author.Tests.{le-leb, lt-leb}
@@ -68,6 +68,35 @@ pub block-to : (d x : List ℕ) (at : ℕ) (s : List ℕ) (m i n m' : ℕ) → x
     → m' ≡ m + (suc (i + n) - m) → stored x (at + i) s i n ≡ paste d at s m'
 block-to d x at s m i n m' e h g l k f =
     ap (λ (y : List ℕ). stored y (at + i) s i n) e ∙ block d at s m i n h g l k ∙ ap (paste d at s) (sym f)
+
+first : (d : List ℕ) (at : ℕ) (s : List ℕ) (n : ℕ) → n < length s → at + length s ≤ length d → stored d at s 0 n ≡ paste d at s (suc n)
+first d at s n g k =
+    let e : at ≡ at + 0 = omega arith in
+    ap (λ (o : ℕ). stored d o s 0 n) e ∙ block-to d d at s 0 0 n (suc n) (paste-zero d at s) (omega arith) (omega arith) (omega arith) k (omega arith)
+
+-- where m bytes stand, the last 1 + n laid over their end make them all
+pub laid-over : (d x : List ℕ) (at : ℕ) (s : List ℕ) (m n : ℕ) → x ≡ paste d at s m → n < length s → m ≤ length s → length s ≤ m + suc n → at + length s ≤ length d
+    → stored x (at + (length s - suc n)) s (length s - suc n) n ≡ splice d at s
+laid-over d x at s m n e g l h k =
+    block-to d x at s m (length s - suc n) n (length s) e (omega arith) (omega arith) l k (omega arith) ∙ paste-splice d at s (length s) refl
+
+-- so do the last 1 + n over the first 1 + n, of at most twice as many
+pub two-ends : (d x y : List ℕ) (at : ℕ) (s : List ℕ) (n : ℕ) → n < length s → length s ≤ suc n + suc n → at + length s ≤ length d
+    → x ≡ stored d at s 0 n → y ≡ stored x (at + (length s - suc n)) s (length s - suc n) n → y ≡ splice d at s
+two-ends d x y at s n g h k p q = q ∙ laid-over d x at s (suc n) n (p ∙ first d at s n g k) g (omega arith) h k
+
+-- a block behind a block is one block
+pub stored-on : (area : List ℕ) (o : ℕ) (s : List ℕ) (j n k : ℕ) → stored (stored area o s j n) (o + suc n) s (j + suc n) k ≡ stored area o s j (suc n + k)
+stored-on area o s j n zero = let e : suc n ≡ suc n + 0 = omega arith in ap (stored area o s j) e
+stored-on area o s j n (suc k) =
+    let m : ℕ = suc n + k in
+    let p : o + suc n + suc k ≡ o + suc m = omega arith in
+    let q : j + suc n + suc k ≡ j + suc m = omega arith in
+    let e : suc m ≡ suc n + suc k = omega arith in
+    ap (λ (x : List ℕ). set x (o + suc n + suc k) (getD s (j + suc n + suc k) 0)) (stored-on area o s j n k)
+    ∙ ap (λ (i : ℕ). set (stored area o s j m) i (getD s (j + suc n + suc k) 0)) p
+    ∙ ap (λ (i : ℕ). set (stored area o s j m) (o + suc m) (getD s i 0)) q
+    ∙ ap (stored area o s j) e
 
 -- what a copy answers and leaves, where the bytes do not fit and where they do
 pub too-many : (area : List ℕ) (at : ℕ) (bytes : List ℕ) → length area < at + length bytes

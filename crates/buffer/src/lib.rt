@@ -4,6 +4,7 @@ ghost use mathlib.Core.Path.{_≡_};
 ghost use Prim.Native.Nat.{_+_, _≤_};
 ghost use lib.ListN.{length};
 ghost use Rattle.laws.specs.Base.{splice};
+ghost use Rattle.block.specs.Block.{stored};
 ghost use Rattle.buffer.specs.Copy.{fits, copied};
 
 // Fewer than 16 bytes, one after the other.
@@ -18,7 +19,42 @@ fn copy_few(area: &mut [u8], at: usize, bytes: &[u8])
     }
 }
 
+// 32 bytes, as two blocks.
+fn copy_32(area: &mut [u8], o: usize, bytes: &[u8], j: usize)
+    requires { ⌜ (o + 32 ≤ length (now area)) × (j + 32 ≤ length (now bytes)) ⌝ }
+    ensures { λ _. ⌜ now (area .exit) ≡ stored (now (area .entry)) o (now (bytes .entry)) j 31 ⌝ }
+{
+    copy_block(area, o, bytes, j);
+    copy_block(area, o + 16, bytes, j + 16);
+}
+
+// 64 bytes, as four blocks.
+fn copy_64(area: &mut [u8], o: usize, bytes: &[u8], j: usize)
+    requires { ⌜ (o + 64 ≤ length (now area)) × (j + 64 ≤ length (now bytes)) ⌝ }
+    ensures { λ _. ⌜ now (area .exit) ≡ stored (now (area .entry)) o (now (bytes .entry)) j 63 ⌝ }
+{
+    copy_32(area, o, bytes, j);
+    copy_32(area, o + 32, bytes, j + 32);
+}
+
 // 16 bytes at once, the last 16 laid over the end.
+fn copy_many(area: &mut [u8], at: usize, bytes: &[u8])
+    requires { ⌜ (at + length (now bytes) ≤ length (now area)) × (16 ≤ length (now bytes)) ⌝ }
+    ensures { λ _. ⌜ now (area .exit) ≡ splice (now (area .entry)) at (now (bytes .entry)) ⌝ }
+{
+    let n = bytes.len();
+    let mut j: usize = 0;
+    while 16 <= n - j {
+        copy_block(area, at + j, bytes, j);
+        j += 16;
+    }
+    if j < n {
+        copy_block(area, at + (n - 16), bytes, n - 16);
+    }
+}
+
+// Up to twice 16, 32 or 64 bytes are the first so many, and the last so many laid over them. That takes no loop, whose end the
+// processor guesses wrong where the sizes vary.
 fn copy_all(area: &mut [u8], at: usize, bytes: &[u8])
     requires { ⌜ at + length (now bytes) ≤ length (now area) ⌝ }
     ensures { λ _. ⌜ now (area .exit) ≡ splice (now (area .entry)) at (now (bytes .entry)) ⌝ }
@@ -28,14 +64,22 @@ fn copy_all(area: &mut [u8], at: usize, bytes: &[u8])
         copy_few(area, at, bytes);
         return;
     }
-    let mut j: usize = 0;
-    while 16 <= n - j {
-        copy_block(area, at + j, bytes, j);
-        j += 16;
-    }
-    if j < n {
+    if n <= 32 {
+        copy_block(area, at, bytes, 0);
         copy_block(area, at + (n - 16), bytes, n - 16);
+        return;
     }
+    if n <= 64 {
+        copy_32(area, at, bytes, 0);
+        copy_32(area, at + (n - 32), bytes, n - 32);
+        return;
+    }
+    if n <= 128 {
+        copy_64(area, at, bytes, 0);
+        copy_64(area, at + (n - 64), bytes, n - 64);
+        return;
+    }
+    copy_many(area, at, bytes);
 }
 
 // Copies bytes into the area from `at` on, and says so; where they do not fit the area stays as it is.

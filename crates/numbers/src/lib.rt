@@ -1,4 +1,5 @@
-// Numbers laid into a lent buffer, eight bytes each, most significant first, and read again: how several numbers go to C and back.
+// Numbers laid into a lent buffer, eight bytes each, most significant first, and read again: how several numbers go to C and
+// back, and how the header of a record is stored.
 use laws::wide;
 ghost use mathlib.Core.Path.{_≡_};
 ghost use mathlib.Core.List.{[], _∷_};
@@ -20,8 +21,9 @@ fn turned(v: u64) -> u64
     (a * 65536 + b) * 4294967296 + (c * 65536 + d)
 }
 
-// Lays a number into a buffer, eight bytes, most significant first.
-fn put(out: &mut [u8], at: usize, v: u64)
+// Lays a number into a buffer, eight bytes, most significant first. This is for the crates above, as the stores of `pieces` are:
+// they show that there is room for it.
+pub fn put(out: &mut [u8], at: usize, v: u64)
     requires { ⌜ at + 8 ≤ length (now out) ⌝ }
     ensures { λ _. ⌜ now (out .exit) ≡ splice (now (out .entry)) at (eight v) ⌝ }
 {

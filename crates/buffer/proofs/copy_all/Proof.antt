@@ -1,101 +1,116 @@
-use mathlib.Core.Path.{_≡_, refl, sym, ap, _∙_}
-use Prim.Native.Nat.{ℕ, suc, _+_, _-_, _≤_, _<_}
 use native.Mathlib.Omega.{arith}
-use mathlib.Core.List.{List}
-use lib.ListN.{length, take, drop, set, getD, length-set}
-use lib.Seq.{paste, paste-zero}
 use borrow.Author.Needs.{needs}
-use Rattle.buffer.proofs.Blocks.{paste-splice, block-to}
+use Rattle.buffer.proofs.Blocks.{two-ends}
 use Rattle.buffer.proofs.copy_all.Statement.{statement}
 use Rattle.buffer.proofs.copy_all.Tie as tie
 
-abbrev Inv-loop : tie.InvT-loop
-Inv-loop area₀ at bytes n j₀ area j = (j ≤ n) × (area ≡ paste area₀ at bytes j) × (length area ≡ length area₀)
-
-abbrev μ-loop : tie.MeasureT-loop
-μ-loop area₀ at bytes n j₀ area j = n - j
-
-copy-few-requires : tie.Need-copy-few-requires Inv-loop μ-loop
+copy-few-requires : tie.Need-copy-few-requires
 copy-few-requires c κs = search needs
 
-same-length : tie.Need-same-length Inv-loop μ-loop
+same-length : tie.Need-same-length
 same-length c = search needs
 
-returns : tie.Need-returns Inv-loop μ-loop
+returns : tie.Need-returns
 returns c = search needs
 
-loop-holds : tie.Need-loop-holds Inv-loop μ-loop
-loop-holds c = let a = c .before .before .before .args in (omega arith, paste-zero (a .area .now) (a .at) (a .bytes .now), refl)
-
-sub-loop : tie.Need-sub-loop Inv-loop μ-loop
-sub-loop c = search needs
-
-add-copy-block : tie.Need-add-copy-block Inv-loop μ-loop
-add-copy-block c = search needs
-
-copy-block-requires : tie.Need-copy-block-requires Inv-loop μ-loop
+copy-block-requires : tie.Need-copy-block-requires
 copy-block-requires c κs = search needs
 
-add-j : tie.Need-add-j Inv-loop μ-loop
-add-j c = search needs
+add-copy-block : tie.Need-add-copy-block
+add-copy-block c = search needs
 
-loop-less : tie.Need-loop-less Inv-loop μ-loop
-loop-less c = search needs
-
-loop-again : tie.Need-loop-again Inv-loop μ-loop
-loop-again c =
-    let l = c .before .before .before .before .before .loop in
-    let a = c .before .before .before .before .before .before .before .before .before .args in (
-      omega arith,
-      c .before .before .copy-block .ensures ∙ block-to (a .area .now) (l .area) (a .at) (a .bytes .now) (l .j) (l .j) 15 (l .j + 16) (l .inv .1) (omega arith) (omega arith) (omega arith) (omega arith) (omega arith),
-      search needs,
-    )
-
-add-copy-block-2 : tie.Need-add-copy-block-2 Inv-loop μ-loop
-add-copy-block-2 c = search needs
-
-copy-block-requires-2 : tie.Need-copy-block-requires-2 Inv-loop μ-loop
+copy-block-requires-2 : tie.Need-copy-block-requires-2
 copy-block-requires-2 c κs = search needs
 
-same-length-2 : tie.Need-same-length-2 Inv-loop μ-loop
+same-length-2 : tie.Need-same-length-2
 same-length-2 c = search needs
 
-returns-2 : tie.Need-returns-2 Inv-loop μ-loop
+returns-2 : tie.Need-returns-2
 returns-2 c =
-    let l = c .before .before .before .before .before .before .loop in
-    let a = c .before .before .before .before .before .before .before .before .before .before .args in
-    c .before .before .copy-block2 .ensures
-    ∙ block-to (a .area .now) (l .area) (a .at) (a .bytes .now) (l .j) (length (a .bytes .now) - 16) 15 (length (a .bytes .now)) (l .inv .1) (omega arith) (omega arith) (omega arith) (omega arith) (omega arith)
-    ∙ paste-splice (a .area .now) (a .at) (a .bytes .now) (length (a .bytes .now)) refl
+    let a = c .before .before .before .before .before .before .before .before .before .before .before .before .args in
+    two-ends (a .area .now) _ _ (a .at) (a .bytes .now) 15 (omega arith) (omega arith) (omega arith) (c .before .before .before .before .before .before .copy-block .ensures) (c .before .before .copy-block2 .ensures)
 
-same-length-3 : tie.Need-same-length-3 Inv-loop μ-loop
+copy-32-requires : tie.Need-copy-32-requires
+copy-32-requires c κs = search needs
+
+sub-copy-32 : tie.Need-sub-copy-32
+sub-copy-32 c = search needs
+
+add-copy-32 : tie.Need-add-copy-32
+add-copy-32 c = search needs
+
+sub-copy-32-2 : tie.Need-sub-copy-32-2
+sub-copy-32-2 c = search needs
+
+copy-32-requires-2 : tie.Need-copy-32-requires-2
+copy-32-requires-2 c κs = search needs
+
+same-length-3 : tie.Need-same-length-3
 same-length-3 c = search needs
 
-returns-3 : tie.Need-returns-3 Inv-loop μ-loop
+returns-3 : tie.Need-returns-3
 returns-3 c =
-    let l = c .before .before .loop in
-    let a = c .before .before .before .before .before .before .args in
-    l .inv .1 ∙ paste-splice (a .area .now) (a .at) (a .bytes .now) (l .j) (omega arith)
+    let a = c .before .before .before .before .before .before .before .before .before .before .before .before .before .args in
+    two-ends (a .area .now) _ _ (a .at) (a .bytes .now) 31 (omega arith) (omega arith) (omega arith) (c .before .before .before .before .before .before .copy-32 .ensures) (c .before .before .copy-322 .ensures)
+
+copy-64-requires : tie.Need-copy-64-requires
+copy-64-requires c κs = search needs
+
+sub-copy-64 : tie.Need-sub-copy-64
+sub-copy-64 c = search needs
+
+add-copy-64 : tie.Need-add-copy-64
+add-copy-64 c = search needs
+
+sub-copy-64-2 : tie.Need-sub-copy-64-2
+sub-copy-64-2 c = search needs
+
+copy-64-requires-2 : tie.Need-copy-64-requires-2
+copy-64-requires-2 c κs = search needs
+
+same-length-4 : tie.Need-same-length-4
+same-length-4 c = search needs
+
+returns-4 : tie.Need-returns-4
+returns-4 c =
+    let a = c .before .before .before .before .before .before .before .before .before .before .before .before .before .before .args in
+    two-ends (a .area .now) _ _ (a .at) (a .bytes .now) 63 (omega arith) (omega arith) (omega arith) (c .before .before .before .before .before .before .copy-64 .ensures) (c .before .before .copy-642 .ensures)
+
+copy-many-requires : tie.Need-copy-many-requires
+copy-many-requires c κs = search needs
+
+same-length-5 : tie.Need-same-length-5
+same-length-5 c = search needs
+
+returns-5 : tie.Need-returns-5
+returns-5 c = search needs
 
 pub copy-all-spec : {M : Type 1} → statement M
 copy-all-spec =
     tie.close
     (tie.spec
-    Inv-loop
-    μ-loop
     copy-few-requires
     same-length
     returns
-    loop-holds
-    sub-loop
-    add-copy-block
     copy-block-requires
-    add-j
-    loop-less
-    loop-again
-    add-copy-block-2
+    add-copy-block
     copy-block-requires-2
     same-length-2
     returns-2
+    copy-32-requires
+    sub-copy-32
+    add-copy-32
+    sub-copy-32-2
+    copy-32-requires-2
     same-length-3
-    returns-3)
+    returns-3
+    copy-64-requires
+    sub-copy-64
+    add-copy-64
+    sub-copy-64-2
+    copy-64-requires-2
+    same-length-4
+    returns-4
+    copy-many-requires
+    same-length-5
+    returns-5)
