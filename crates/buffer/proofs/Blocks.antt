@@ -85,6 +85,17 @@ pub two-ends : (d x y : List ℕ) (at : ℕ) (s : List ℕ) (n : ℕ) → n < le
     → x ≡ stored d at s 0 n → y ≡ stored x (at + (length s - suc n)) s (length s - suc n) n → y ≡ splice d at s
 two-ends d x y at s n g h k p q = q ∙ laid-over d x at s (suc n) n (p ∙ first d at s n g k) g (omega arith) h k
 
+-- and of more than 64 and at most 128 bytes the first 64 and the last 64, by 32
+pub four-ends : (d x y z w : List ℕ) (at : ℕ) (s : List ℕ) → 64 < length s → length s ≤ 128 → at + length s ≤ length d
+    → x ≡ stored d at s 0 31 → y ≡ stored x (at + 32) s 32 31 → z ≡ stored y (at + (length s - 64)) s (length s - 64) 31
+    → w ≡ stored z (at + (length s - 32)) s (length s - 32) 31 → w ≡ splice d at s
+four-ends d x y z w at s g h k p q r t =
+    let m : ℕ = 64 + (suc (length s - 64 + 31) - 64) in
+    let a : x ≡ paste d at s 32 = p ∙ first d at s 31 (omega arith) k in
+    let b : y ≡ paste d at s 64 = q ∙ block-to d x at s 32 32 31 64 a (omega arith) (omega arith) (omega arith) k (omega arith) in
+    let c : z ≡ paste d at s m = r ∙ block-to d y at s 64 (length s - 64) 31 m b (omega arith) (omega arith) (omega arith) k refl in
+    t ∙ laid-over d z at s m 31 c (omega arith) (omega arith) (omega arith) k
+
 -- a block behind a block is one block
 pub stored-on : (area : List ℕ) (o : ℕ) (s : List ℕ) (j n k : ℕ) → stored (stored area o s j n) (o + suc n) s (j + suc n) k ≡ stored area o s j (suc n + k)
 stored-on area o s j n zero = let e : suc n ≡ suc n + 0 = omega arith in ap (stored area o s j) e

@@ -28,15 +28,6 @@ fn copy_32(area: &mut [u8], o: usize, bytes: &[u8], j: usize)
     copy_block(area, o + 16, bytes, j + 16);
 }
 
-// 64 bytes, as four blocks.
-fn copy_64(area: &mut [u8], o: usize, bytes: &[u8], j: usize)
-    requires { ⌜ (o + 64 ≤ length (now area)) × (j + 64 ≤ length (now bytes)) ⌝ }
-    ensures { λ _. ⌜ now (area .exit) ≡ stored (now (area .entry)) o (now (bytes .entry)) j 63 ⌝ }
-{
-    copy_32(area, o, bytes, j);
-    copy_32(area, o + 32, bytes, j + 32);
-}
-
 // 16 bytes at once, the last 16 laid over the end.
 fn copy_many(area: &mut [u8], at: usize, bytes: &[u8])
     requires { ⌜ (at + length (now bytes) ≤ length (now area)) × (16 ≤ length (now bytes)) ⌝ }
@@ -54,7 +45,7 @@ fn copy_many(area: &mut [u8], at: usize, bytes: &[u8])
 }
 
 // Up to twice 16, 32 or 64 bytes are the first so many, and the last so many laid over them. That takes no loop, whose end the
-// processor guesses wrong where the sizes vary.
+// processor guesses wrong where the sizes vary; and no call, since the compiler puts 32 bytes in line, but not 64.
 fn copy_all(area: &mut [u8], at: usize, bytes: &[u8])
     requires { ⌜ at + length (now bytes) ≤ length (now area) ⌝ }
     ensures { λ _. ⌜ now (area .exit) ≡ splice (now (area .entry)) at (now (bytes .entry)) ⌝ }
@@ -75,8 +66,10 @@ fn copy_all(area: &mut [u8], at: usize, bytes: &[u8])
         return;
     }
     if n <= 128 {
-        copy_64(area, at, bytes, 0);
-        copy_64(area, at + (n - 64), bytes, n - 64);
+        copy_32(area, at, bytes, 0);
+        copy_32(area, at + 32, bytes, 32);
+        copy_32(area, at + (n - 64), bytes, n - 64);
+        copy_32(area, at + (n - 32), bytes, n - 32);
         return;
     }
     copy_many(area, at, bytes);

@@ -1,6 +1,6 @@
 use native.Mathlib.Omega.{arith}
+use Rattle.buffer.proofs.Blocks.{two-ends, four-ends}
 use borrow.Author.Needs.{needs}
-use Rattle.buffer.proofs.Blocks.{two-ends}
 use Rattle.buffer.proofs.copy_all.Statement.{statement}
 use Rattle.buffer.proofs.copy_all.Tie as tie
 
@@ -53,28 +53,46 @@ returns-3 c =
     let a = c .before .before .before .before .before .before .before .before .before .before .before .before .before .args in
     two-ends (a .area .now) _ _ (a .at) (a .bytes .now) 31 (omega arith) (omega arith) (omega arith) (c .before .before .before .before .before .before .copy-32 .ensures) (c .before .before .copy-322 .ensures)
 
-copy-64-requires : tie.Need-copy-64-requires
-copy-64-requires c κs = search needs
+copy-32-requires-3 : tie.Need-copy-32-requires-3
+copy-32-requires-3 c κs = search needs
 
-sub-copy-64 : tie.Need-sub-copy-64
-sub-copy-64 c = search needs
+add-copy-32-2 : tie.Need-add-copy-32-2
+add-copy-32-2 c = search needs
 
-add-copy-64 : tie.Need-add-copy-64
-add-copy-64 c = search needs
+copy-32-requires-4 : tie.Need-copy-32-requires-4
+copy-32-requires-4 c κs = search needs
 
-sub-copy-64-2 : tie.Need-sub-copy-64-2
-sub-copy-64-2 c = search needs
+sub-copy-32-3 : tie.Need-sub-copy-32-3
+sub-copy-32-3 c = search needs
 
-copy-64-requires-2 : tie.Need-copy-64-requires-2
-copy-64-requires-2 c κs = search needs
+add-copy-32-3 : tie.Need-add-copy-32-3
+add-copy-32-3 c = search needs
+
+sub-copy-32-4 : tie.Need-sub-copy-32-4
+sub-copy-32-4 c = search needs
+
+copy-32-requires-5 : tie.Need-copy-32-requires-5
+copy-32-requires-5 c κs = search needs
+
+sub-copy-32-5 : tie.Need-sub-copy-32-5
+sub-copy-32-5 c = search needs
+
+add-copy-32-4 : tie.Need-add-copy-32-4
+add-copy-32-4 c = search needs
+
+sub-copy-32-6 : tie.Need-sub-copy-32-6
+sub-copy-32-6 c = search needs
+
+copy-32-requires-6 : tie.Need-copy-32-requires-6
+copy-32-requires-6 c κs = search needs
 
 same-length-4 : tie.Need-same-length-4
 same-length-4 c = search needs
 
 returns-4 : tie.Need-returns-4
 returns-4 c =
-    let a = c .before .before .before .before .before .before .before .before .before .before .before .before .before .before .args in
-    two-ends (a .area .now) _ _ (a .at) (a .bytes .now) 63 (omega arith) (omega arith) (omega arith) (c .before .before .before .before .before .before .copy-64 .ensures) (c .before .before .copy-642 .ensures)
+    let a = c .before .before .before .before .before .before .before .before .before .before .before .before .before .before .before .before .before .before .before .before .before .before .args in
+    four-ends (a .area .now) _ _ _ _ (a .at) (a .bytes .now) (omega arith) (omega arith) (omega arith) (c .before .before .before .before .before .before .before .before .before .before .before .before .before .before .copy-323 .ensures) (c .before .before .before .before .before .before .before .before .before .before .copy-324 .ensures) (c .before .before .before .before .before .before .copy-325 .ensures) (c .before .before .copy-326 .ensures)
 
 copy-many-requires : tie.Need-copy-many-requires
 copy-many-requires c κs = search needs
@@ -104,11 +122,17 @@ copy-all-spec =
     copy-32-requires-2
     same-length-3
     returns-3
-    copy-64-requires
-    sub-copy-64
-    add-copy-64
-    sub-copy-64-2
-    copy-64-requires-2
+    copy-32-requires-3
+    add-copy-32-2
+    copy-32-requires-4
+    sub-copy-32-3
+    add-copy-32-3
+    sub-copy-32-4
+    copy-32-requires-5
+    sub-copy-32-5
+    add-copy-32-4
+    sub-copy-32-6
+    copy-32-requires-6
     same-length-4
     returns-4
     copy-many-requires
