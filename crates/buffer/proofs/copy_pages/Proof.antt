@@ -55,7 +55,7 @@ loop-again c =
     let l = c .before .before .before .before .before .before .loop in
     let a = c .before .before .before .before .before .before .before .before .before .args in (
       omega arith,
-      part-on (a .area .now) (l .area) _ (a .at) (a .bytes .now) (l .j) (l .j + 8192) (omega arith) (omega arith) (omega arith) (l .inv .1) (c .before .before .copy-page .ensures),
+      part-on (a .area .now) (l .area) _ (a .at) (a .bytes .now) (l .j) (l .j + 16384) (omega arith) (omega arith) (omega arith) (l .inv .1) (c .before .before .copy-page .ensures),
       search needs,
     )
 
