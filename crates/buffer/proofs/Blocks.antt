@@ -3,13 +3,14 @@ use mathlib.Core.Path.{_≡_, refl, sym, ap, _∙_}
 use Prim.Native.Nat.{ℕ, zero, suc, _+_, _-_, _≤_, _<_}
 use native.Mathlib.Nat.{add-assoc}
 use native.Mathlib.Omega.{arith}
-use mathlib.Core.List.{List, _++_}
+use mathlib.Core.List.{List, _++_, append-nil}
 use mathlib.Core.Bool.{true, false}
 use mathlib.Core.Logic.{⊎-elim}
 use lib.ListN.{length, take, drop, set, getD, List·getD-append}
-use lib.Seq.{length-take-le, getD-take, getD-append-add, paste, paste-zero, paste-suc, set-getD, take-length, length-paste-head}
-use Rattle.laws.specs.Base.{splice}
+use lib.Seq.{length-take-le, take-add, drop-length, getD-take, getD-append-add, paste, paste-zero, paste-suc, set-getD, take-length, length-paste-head}
+use Rattle.laws.specs.Base.{part, splice}
 use Rattle.laws.proofs.Order.{lt-or-le}
+use Rattle.laws.proofs.Splice.{splice-next}
 use borrow.Author.Tests.{le-leb, lt-leb}
 use Rattle.buffer.specs.Copy.{fits, copied}
 use Rattle.block.specs.Block.{stored}
@@ -108,6 +109,28 @@ stored-on area o s j n (suc k) =
     ∙ ap (λ (i : ℕ). set (stored area o s j m) i (getD s (j + suc n + suc k) 0)) p
     ∙ ap (λ (i : ℕ). set (stored area o s j m) (o + suc m) (getD s i 0)) q
     ∙ ap (stored area o s j) e
+
+-- ---- by pages
+
+-- the first n bytes are copied
+pub pasted : (d : List ℕ) (at : ℕ) (s : List ℕ) (n : ℕ) → n ≤ length s → paste d at s n ≡ splice d at (take n s)
+unfolding splice
+pasted d at s n h = ap (λ (k : ℕ). take at d ++ take n s ++ drop (at + k) d) (sym (length-take-le n s h))
+
+-- the bytes from j to e behind the first j
+pub part-on : (d x y : List ℕ) (at : ℕ) (s : List ℕ) (j e : ℕ) → j ≤ e → e ≤ length s → at + length s ≤ length d → x ≡ splice d at (take j s)
+    → y ≡ splice x (at + j) (part s j e) → y ≡ splice d at (take e s)
+part-on d x y at s j e h l k p q =
+    let n : j + (e - j) ≡ e = omega arith in
+    splice-next d x y at (at + j) (take j s) (part s j e) (ap (λ (i : ℕ). at + i) (sym (length-take-le j s (omega arith)))) (omega arith) p q
+    ∙ ap (splice d at) (sym (take-add j (e - j) s) ∙ ap (λ (i : ℕ). take i s) n)
+
+-- an array with bytes laid over all of it is the bytes
+pub whole : (d s x : List ℕ) → x ≡ splice d 0 s → length s ≡ length d → x ≡ s
+unfolding splice
+whole d s x p e =
+    let n : 0 + length s ≡ length d = omega arith in
+    p ∙ ap (λ (i : ℕ). s ++ drop i d) n ∙ ap (λ (l : List ℕ). s ++ l) (drop-length d) ∙ append-nil s
 
 -- what a copy answers and leaves, where the bytes do not fit and where they do
 pub too-many : (area : List ℕ) (at : ℕ) (bytes : List ℕ) → length area < at + length bytes

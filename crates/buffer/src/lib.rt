@@ -2,12 +2,12 @@
 use block::copy_block;
 ghost use mathlib.Core.Path.{_≡_};
 ghost use Prim.Native.Nat.{_+_, _≤_};
-ghost use lib.ListN.{length};
+ghost use lib.ListN.{length, take};
 ghost use Rattle.laws.specs.Base.{splice};
 ghost use Rattle.block.specs.Block.{stored};
 ghost use Rattle.buffer.specs.Copy.{fits, copied};
 
-// Fewer than 16 bytes, one after the other.
+// Bytes one after the other.
 fn copy_few(area: &mut [u8], at: usize, bytes: &[u8])
     requires { ⌜ at + length (now bytes) ≤ length (now area) ⌝ }
     ensures { λ _. ⌜ now (area .exit) ≡ splice (now (area .entry)) at (now (bytes .entry)) ⌝ }
@@ -44,6 +44,41 @@ fn copy_many(area: &mut [u8], at: usize, bytes: &[u8])
     }
 }
 
+// 16,384 bytes, by way of an array. The compiler sees that nobody else has the array, makes one block move of the two copies and leaves
+// the array out; of a loop from one slice to the other it does not know that they lie apart.
+fn copy_page(area: &mut [u8], at: usize, bytes: &[u8])
+    requires { ⌜ (at + length (now bytes) ≤ length (now area)) × (length (now bytes) ≡ 16384) ⌝ }
+    ensures { λ _. ⌜ now (area .exit) ≡ splice (now (area .entry)) at (now (bytes .entry)) ⌝ }
+{
+    let mut page: [u8; 16384] = [0; 16384];
+    copy_few(&mut page, 0, bytes);
+    copy_few(area, at, &page);
+}
+
+// Whole pages, and how many bytes they are.
+fn copy_pages(area: &mut [u8], at: usize, bytes: &[u8]) -> usize
+    requires { ⌜ at + length (now bytes) ≤ length (now area) ⌝ }
+    ensures count { λ r. ⌜ r ≤ length (now (bytes .entry)) ⌝ }
+    ensures area { λ r. ⌜ now (area .exit) ≡ splice (now (area .entry)) at (take r (now (bytes .entry))) ⌝ }
+{
+    let n = bytes.len();
+    let mut j: usize = 0;
+    while 16384 <= n - j {
+        copy_page(area, at + j, &bytes[j..j + 16384]);
+        j += 16384;
+    }
+    j
+}
+
+// Whole pages, then the rest.
+fn copy_long(area: &mut [u8], at: usize, bytes: &[u8])
+    requires { ⌜ at + length (now bytes) ≤ length (now area) ⌝ }
+    ensures { λ _. ⌜ now (area .exit) ≡ splice (now (area .entry)) at (now (bytes .entry)) ⌝ }
+{
+    let j = copy_pages(area, at, bytes);
+    copy_few(area, at + j, &bytes[j..]);
+}
+
 // Up to twice 16, 32 or 64 bytes are the first so many, and the last so many laid over them. That takes no loop, whose end the
 // processor guesses wrong where the sizes vary; and no call, since the compiler puts 32 bytes in line, but not 64.
 fn copy_all(area: &mut [u8], at: usize, bytes: &[u8])
@@ -72,7 +107,11 @@ fn copy_all(area: &mut [u8], at: usize, bytes: &[u8])
         copy_32(area, at + (n - 32), bytes, n - 32);
         return;
     }
-    copy_many(area, at, bytes);
+    if n < 16384 {
+        copy_many(area, at, bytes);
+        return;
+    }
+    copy_long(area, at, bytes);
 }
 
 // Copies bytes into the area from `at` on, and says so; where they do not fit the area stays as it is.

@@ -1,6 +1,7 @@
 // The values of fields, by wire type.
 use crate::varint::Varint;
 use crate::varint::varint_at;
+use laws::wide;
 ghost use mathlib.Core.Path.{_≡_};
 ghost use Prim.Native.Nat.{_<_};
 ghost use Rattle.field.specs.Varint.{varintAt};
@@ -51,8 +52,9 @@ pub fn number_at(s: &[u8], at: usize) -> Payload
     }
 }
 
-// A length and its bytes.
-pub fn part_at(s: &[u8], at: usize) -> Payload
+// A length and its bytes, where the length takes two bytes or more or is refused: apart from `part_at`, so that its short way can be
+// inlined.
+fn part_slow(s: &[u8], at: usize) -> Payload
     ensures { λ r. ⌜ r ≡ partOf (now (s .entry)) at (varintAt (now (s .entry)) at) ⌝ }
 {
     match varint_at(s, at) {
@@ -79,6 +81,26 @@ pub fn part_at(s: &[u8], at: usize) -> Payload
             place: at,
         },
     }
+}
+
+// A length and its bytes. Nearly all lengths are one byte, which has a short way.
+pub fn part_at(s: &[u8], at: usize) -> Payload
+    ensures { λ r. ⌜ r ≡ partOf (now (s .entry)) at (varintAt (now (s .entry)) at) ⌝ }
+{
+    if at < s.len() {
+        let length = wide(s[at]);
+        if length < 128 {
+            let start = at + 1;
+            let left = (s.len() - start) as u64;
+            if length <= left {
+                return Payload::Part {
+                    start,
+                    end: start + length as usize,
+                };
+            }
+        }
+    }
+    part_slow(s, at)
 }
 
 // The value at `from` of the field whose tag is at `at`. Wire types 0 and 2 share the reading of their varint, so that this

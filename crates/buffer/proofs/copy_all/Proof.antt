@@ -103,6 +103,15 @@ same-length-5 c = search needs
 returns-5 : tie.Need-returns-5
 returns-5 c = search needs
 
+copy-long-requires : tie.Need-copy-long-requires
+copy-long-requires c κs = search needs
+
+same-length-6 : tie.Need-same-length-6
+same-length-6 c = search needs
+
+returns-6 : tie.Need-returns-6
+returns-6 c = search needs
+
 pub copy-all-spec : {M : Type 1} → statement M
 copy-all-spec =
     tie.close
@@ -137,4 +146,7 @@ copy-all-spec =
     returns-4
     copy-many-requires
     same-length-5
-    returns-5)
+    returns-5
+    copy-long-requires
+    same-length-6
+    returns-6)

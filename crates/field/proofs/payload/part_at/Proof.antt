@@ -1,64 +1,49 @@
-use mathlib.Core.Path.{sym, subst, _∙_}
-use borrow.Author.Tests.{le-leb, lt-leb}
 use native.Mathlib.Omega.{arith}
+use mathlib.Core.Path.{sym}
+use borrow.Author.Tests.{le-leb}
 use Rattle.field.specs.Field.{partOf}
-use Rattle.field.proofs.Varints.{Within, within}
+use Rattle.field.proofs.Varints.{ends}
 use borrow.Author.Needs.{needs}
 use Rattle.field.proofs.payload.part_at.Statement.{statement}
 use Rattle.field.proofs.payload.part_at.Tie as tie
 
-varint-at-requires : tie.Need-varint-at-requires
-varint-at-requires c κs = search needs
+shared-slice-read-wide : tie.Need-shared-slice-read-wide
+shared-slice-read-wide c = search needs
 
-enum-known-value : tie.Need-enum-known-value
-enum-known-value c = search needs
+wide-requires : tie.Need-wide-requires
+wide-requires c κs = search needs
+
+add-start : tie.Need-add-start
+add-start c = search needs
 
 sub-left : tie.Need-sub-left
-sub-left c = let v = c .before in
-    let k = v .before .before .before in
-    let a = k .before .args in
-    let h = subst (Within (a .s .now) (a .at) 9) (sym (v .before .before .varint-at .ensures) ∙ v .value .given .1)
-    (within (a .s .now) (λ i. k .shared-slice-known .given i .fits) 9 (a .at)) in
-    h .1
+sub-left c = search needs
 
-add-t13 : tie.Need-add-t13
-add-t13 c = search needs
-
-enum-told : tie.Need-enum-told
-enum-told c = search needs
-
-enum-told-2 : tie.Need-enum-told-2
-enum-told-2 c = search needs
+add-t15 : tie.Need-add-t15
+add-t15 c = search needs
 
 returns : tie.Need-returns
 unfolding partOf
-returns c = let v = c .before .before in
-    rw (sym (v .before .before .varint-at .ensures) ∙ v .value .given .1) (simp (le-leb _ _ (c .if1 .taken)))
+returns c = let w = c .before .before in
+    let a = w .before .before .before .before .args in
+    let one = ends (a .s .now) (a .at) 9 (omega arith) (w .before .before .if1 .taken) (omega (arith, w .wide .ensures)) in
+    rw (sym one) (rw (sym (w .wide .ensures)) (simp (le-leb _ _ (c .if3 .taken))))
+
+part-slow-requires : tie.Need-part-slow-requires
+part-slow-requires c κs = search needs
 
 returns-2 : tie.Need-returns-2
-unfolding partOf
-returns-2 c = let v = c .before .before in
-    rw (sym (v .before .before .varint-at .ensures) ∙ v .value .given .1) (simp (lt-leb _ _ (c .if1 .left)))
-
-returns-3 : tie.Need-returns-3
-unfolding partOf
-returns-3 c = rw (sym (c .before .before .varint-at .ensures) ∙ c .enum-told .given .1)
-
-returns-4 : tie.Need-returns-4
-unfolding partOf
-returns-4 c = rw (sym (c .before .before .varint-at .ensures) ∙ c .enum-told2 .given .1)
+returns-2 c = search needs
 
 pub part-at-spec : {M : Type 1} → statement M
 part-at-spec =
     tie.close
     (tie.spec
-    varint-at-requires
-    enum-known-value
+    shared-slice-read-wide
+    wide-requires
+    add-start
     sub-left
-    add-t13
-    enum-told
-    enum-told-2
+    add-t15
     returns
-    returns-2
-    returns-3
-    returns-4)
+    part-slow-requires
+    returns-2)
