@@ -3,7 +3,8 @@
  * fails and at the end 'N passed, M failed'; exit status 1 on a failure.
  *
  * The marked examples 7 to 10 of the scope document; the 40 bytes of a session, and bytes that are none; what a
- * refusal leaves as it was; and that a restart and a file check touch no data bytes.
+ * refusal leaves as it was; the turns of I/O bytes; which of two refusals goes first; and that a restart and a file
+ * check touch no data bytes.
  */
 #define _DEFAULT_SOURCE
 #include "check.h"
@@ -236,6 +237,80 @@ static void test_refusals(void)
     CHECK(hand_over(&h) == 8 && h.answer.key == 0);
 }
 
+/* What a message gives over the host's area with this used length. A refusal leaves both. */
+static int refusal_of(struct host h, const uint8_t *message, size_t n, size_t used)
+{
+    struct host before = h;
+    int refusal = sudolog_take_message(&h.session, message, n, h.area, sizeof h.area, used, &h.answer);
+    CHECK(refusal == 0 || (h.answer.used == used && h.answer.state == SUDOLOG_STATE_CLOSED));
+    CHECK(refusal == 0 || memcmp(h.area, before.area, AREA) == 0);
+    return refusal;
+}
+
+/* A message with a value out of range is 7; where its lengths are wrong too, 15, which goes right after 9. No writer
+ * writes these messages. */
+static void test_lengths_before_ranges(void)
+{
+    /* a ttyout after 10^9 ns, 65,536 rows, a suspend without a signal, exit_value 256, a restart without a log_id */
+    static const uint8_t nanoseconds[] = { 0x3A, 8, 0x0A, 6, 0x10, 0x80, 0x94, 0xEB, 0xDC, 3 };
+    static const uint8_t rows[] = { 0x5A, 4, 0x10, 0x80, 0x80, 4 };
+    static const uint8_t signal[] = { 0x62, 0 };
+    static const uint8_t value[] = { 0x1A, 3, 0x10, 0x80, 2 };
+    static const uint8_t log_id[] = { 0x22, 0 };
+    static const uint8_t *const logging[] = { nanoseconds, rows, signal, value };
+    static const size_t sizes[] = { sizeof nanoseconds, sizeof rows, sizeof signal, sizeof value };
+    struct host h = four_records(), again = reconnected(&h);
+    size_t i;
+    for (i = 0; i < 4; i++) {
+        CHECK(refusal_of(h, logging[i], sizes[i], h.used) == 7);
+        CHECK(refusal_of(h, logging[i], sizes[i], AREA + 1) == 15);   /* beyond the area */
+        CHECK(refusal_of(h, logging[i], sizes[i], h.used - 1) == 15); /* not the session's */
+        CHECK(refusal_of(again, logging[i], sizes[i], AREA + 1) == 9);
+    }
+    CHECK(refusal_of(again, log_id, sizeof log_id, h.used) == 7);
+    CHECK(refusal_of(again, log_id, sizeof log_id, AREA + 1) == 15);
+    CHECK(refusal_of(h, log_id, sizeof log_id, AREA + 1) == 9);
+}
+
+/* I/O bytes have their turn in logging alone. */
+static void test_turns_of_io(void)
+{
+    unsigned member;
+    for (member = SUDOLOG_FROM_CLIENT_TTYIN; member <= SUDOLOG_FROM_CLIENT_STDERR; member++) {
+        struct host fresh = opened(), greeted = fresh, logging = fresh, events = fresh, closed;
+        struct host *const others[] = { &fresh, &greeted, &events, &closed };
+        size_t i;
+        made(&greeted, sudolog_write_client_hello(SUDOLOG_FROM_CLIENT_HELLO, sudolog_text("c"), 1, 0, greeted.message,
+                                                  sizeof greeted.message));
+        CHECK(hand_over(&greeted) == 0 && greeted.answer.state == SUDOLOG_STATE_GREETED);
+        make_accept(&events, false);
+        CHECK(hand_over(&events) == 0 && events.answer.state == SUDOLOG_STATE_EVENTS_ONLY);
+        CHECK(accept_io(&logging) == 0);
+        closed = logging;
+        CHECK(leave(&closed) == 0 && closed.answer.state == SUDOLOG_STATE_CLOSED);
+        made(&logging,
+             sudolog_write_io(member, 0, 0, sudolog_text("hi"), 2, 0, logging.message, sizeof logging.message));
+        for (i = 0; i < 4; i++)
+            CHECK(refusal_of(*others[i], logging.message, logging.n, others[i]->used) == 9);
+        CHECK(hand_over(&logging) == 0 && logging.answer.state == SUDOLOG_STATE_LOGGING);
+    }
+}
+
+/* At a restart point a delay of zero is 11, and not 12, in an area that has no byte left. */
+static void test_restart_point_before_room(void)
+{
+    uint64_t delay;
+    for (delay = 0; delay <= 2; delay += 2) {
+        struct host h = four_records();
+        h = reconnected(&h);
+        CHECK(restart(&h, 1) == 0);
+        made(&h, sudolog_write_io(SUDOLOG_FROM_CLIENT_TTYOUT, delay, 0, sudolog_text("hi"), 2, 0, h.message,
+                                  sizeof h.message));
+        CHECK(sudolog_take_message(&h.session, h.message, h.n, h.area, h.used, h.used, &h.answer)
+              == (delay == 0 ? 11 : 12));
+    }
+}
+
 /* A file of two I/O records of 2 MiB whose data lie in pages that can't be read: restart and check look at
  * headers alone. */
 static void test_headers_alone(void)
@@ -284,6 +359,9 @@ int main(void)
     test_no_sessions();
     test_lengths();
     test_refusals();
+    test_turns_of_io();
+    test_lengths_before_ranges();
+    test_restart_point_before_room();
     test_headers_alone();
     return checked();
 }
