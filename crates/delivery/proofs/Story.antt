@@ -48,13 +48,8 @@ story = record {
       announces = refl;
       accept-in-range = refl;
       entries-there = refl;
-      accept-small = omega arith;
-      timed-valid = (
-        record { in-range = refl; small = omega arith },
-        (record { in-range = refl; small = omega arith }, (record { in-range = refl; small = omega arith }, (record { in-range = refl; small = omega arith }, tt))),
-      );
+      timed-in-range = (refl, (refl, (refl, (refl, tt))));
       exit-in-range = refl;
-      exit-small = omega arith;
       within-limit = omega arith;
     };
     fits = λ a. omega arith;

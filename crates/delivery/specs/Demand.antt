@@ -11,6 +11,10 @@ use Rattle.delivery.specs.Recording.{Recording, Valid, All, records}
 use Rattle.delivery.specs.Host.{WholeRestart}
 use Rattle.delivery.specs.World.{World, Event, AllProper, run, fresh, file}
 
+-- an area's file carries an exit
+abbrev pub Carries : World → ℕ → Type 0
+Carries w a = fileKind (file w a) ≡ f.finished
+
 module _ (blank : ℕ → Bytes) where
   -- "all valid, its delays summing within the limit, its file fitting each area, the areas in range"
   pub record Given (R : Recording) : Type 0 where
@@ -25,10 +29,6 @@ module _ (blank : ℕ → Bytes) where
 
   abbrev pub after : Recording → List Event → World
   after R es = run R es (fresh blank)
-
-  -- an area's file carries an exit
-  abbrev pub Carries : World → ℕ → Type 0
-  Carries w a = fileKind (file w a) ≡ f.finished
 
   pub record Demand3 : Type 0 where
     -- "each area's used bytes are exactly the recording's first n records, in order, n being the count in 01's book"

@@ -30,12 +30,12 @@ abbrev pub TellsEnd : Recording → Answer → Type 0
 TellsEnd R (toTick T) = T < totalOf (R .timed)
 TellsEnd R (toMessage k p) = (T : ℕ) → p ≡ point.At T → T ≡ totalOf (R .timed)
 
-module _ (blank : ℕ → Bytes) where
-  -- an area's file holds the whole recording
-  pub record Done (R : Recording) (w : World) : Type 0 where
-    pub area : ℕ
-    pub whole : file w area ≡ fileBytes (records R)
+-- an area's file holds the whole recording
+pub record Done (R : Recording) (w : World) : Type 0 where
+  pub area : ℕ
+  pub whole : file w area ≡ fileBytes (records R)
 
+module _ (blank : ℕ → Bytes) where
   -- the list goes on to one
   pub record GoesOn (R : Recording) (es : List Event) : Type 0 where
     pub more : List Event
