@@ -12,3 +12,4 @@ pub mod Demand
 pub mod Story
 pub mod Restarting
 pub mod Progress
+pub mod Examples
