@@ -13,8 +13,8 @@ use Rattle.record.specs.File.{fileBytes, fileKind}
 use Rattle.record.proofs.Reading.{file-injective}
 use Rattle.delivery.specs.Recording.{TimedRecord, Recording, acceptRecord, recordOf, exitRecord, records, All}
 use Rattle.delivery.specs.Host.{carries}
-use Rattle.delivery.specs.World.{World, Event, fresh, file}
-use Rattle.delivery.specs.Demand.{Given, Listed, after, Carries, Demand3}
+use Rattle.delivery.specs.World.{World, fresh, file}
+use Rattle.delivery.specs.Demand.{Delivery, end, Carries, Demand3}
 use Rattle.delivery.proofs.Values.{StorableTimed, Storable, same-timed, same-exit}
 use Rattle.delivery.proofs.Files.{all-ranged, carries-none, carries-is}
 use Rattle.delivery.proofs.Reached.{Came, unopened, opened, came, reached}
@@ -48,37 +48,36 @@ same-file R Q v w e =
     let x : R .exit ≡ Q .exit = same-exit (R .exit) (Q .exit) (v .valid .exit-in-range) (w .valid .exit-in-range) (u .1) in
     λ i. record { accept = a i; timed = m i; exit = x i }
 
-module _ (blank : ℕ → Bytes) where
-  module _ (R : Recording) (g : Given blank R) (es : List Event) (listed : Listed blank R es) where
-    shows : (a : ℕ) → file (after blank R es) a ≡ fileBytes (take (after blank R es .book a) (records R))
-    shows a = reached blank R g es listed .areas a .lies .shows
+module _ (d : Delivery) where
+  shows : (a : ℕ) → file (end d) a ≡ fileBytes (take (end d .book a) (records (d .recording)))
+  shows a = reached d .areas a .lies .shows
 
-    whole-file : (a : ℕ) → after blank R es .book a ≡ length (records R) → file (after blank R es) a ≡ fileBytes (records R)
-    whole-file a e = shows a ∙ ap (λ (k : ℕ). fileBytes (take k (records R))) e ∙ ap fileBytes (take-length (records R))
+  whole-file : (a : ℕ) → end d .book a ≡ length (records (d .recording)) → file (end d) a ≡ fileBytes (records (d .recording))
+  whole-file a e = shows a ∙ ap (λ (k : ℕ). fileBytes (take k (records (d .recording)))) e ∙ ap fileBytes (take-length (records (d .recording)))
 
-    -- a file that carries an exit was not there at the beginning
-    storable : (a : ℕ) → Carries (after blank R es) a → Storable R
-    unfolding carries fresh
-    storable a h = go (came blank R g es listed)
-      where
-        go : Came blank R (after blank R es) → Storable R
-        go (opened s) = s
-        go (unopened e) =
-            let z : false ≡ true = sym carries-none ∙ ap (λ (w : World). carries (fileKind (file w a))) (sym e) ∙ ap carries h in
-            let y : _≡_ {A = ℕ} 0 1 = cc in
-            absurd (omega arith)
+  -- a file that carries an exit was not there at the beginning
+  storable : (a : ℕ) → Carries (end d) a → Storable (d .recording)
+  unfolding carries fresh
+  storable a h = go (came d)
+    where
+      go : Came (d .blank) (d .recording) (end d) → Storable (d .recording)
+      go (opened s) = s
+      go (unopened e) =
+          let z : false ≡ true = sym carries-none ∙ ap (λ (w : World). carries (fileKind (file w a))) (sym e) ∙ ap carries h in
+          let y : _≡_ {A = ℕ} 0 1 = cc in
+          absurd (omega arith)
 
-    full : (a : ℕ) → Carries (after blank R es) a → file (after blank R es) a ≡ fileBytes (records R)
-    unfolding carries
-    full a h =
-        whole-file a
-        (eqb-true (after blank R es .book a) (length (records R))
-        (sym (carries-is R (storable a h) (after blank R es .book a) (reached blank R g es listed .areas a .within)) ∙ ap (λ (f : Bytes). carries (fileKind f)) (sym (shows a)) ∙ ap carries h))
+  full : (a : ℕ) → Carries (end d) a → file (end d) a ≡ fileBytes (records (d .recording))
+  unfolding carries
+  full a h =
+      whole-file a
+      (eqb-true (end d .book a) (length (records (d .recording)))
+      (sym (carries-is (d .recording) (storable a h) (end d .book a) (reached d .areas a .within)) ∙ ap (λ (f : Bytes). carries (fileKind f)) (sym (shows a)) ∙ ap carries h))
 
-  pub demand-3 : Demand3 blank
-  demand-3 = record {
-    files = λ R g es p a. shows R g es p a;
-    restarts = λ R g es p. reached blank R g es p .restarts-ok;
-    finished = λ R g es p a h. full R g es p a h;
-    apart = λ R Q g h es fs p q a b x y e. same-file R Q (storable R g es p a x) (storable Q h fs q b y) (sym (full R g es p a x) ∙ e ∙ full Q h fs q b y);
-  }
+pub demand-3 : Demand3
+demand-3 = record {
+  files = shows;
+  restarts = λ d. reached d .restarts-ok;
+  finished = full;
+  apart = λ d e a b x y same. same-file (d .recording) (e .recording) (storable d a x) (storable e b y) (sym (full d a x) ∙ same ∙ full e b y);
+}

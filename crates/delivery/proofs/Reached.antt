@@ -6,7 +6,7 @@ use mathlib.Core.List.{List, [], _∷_}
 use Rattle.message.specs.Message.{Bytes}
 use Rattle.delivery.specs.Recording.{Recording, Valid}
 use Rattle.delivery.specs.World.{World, fresh, Event, opening, bytes, tick, arrival, break, outside, happens, run, Proper, AllProper}
-use Rattle.delivery.specs.Demand.{Given, Listed, after}
+use Rattle.delivery.specs.Demand.{Delivery, end}
 use Rattle.delivery.proofs.Values.{Storable}
 use Rattle.delivery.proofs.Sizes.{storable-lined}
 use Rattle.delivery.proofs.Runs.{WorldOk, fresh-ok, run-ok}
@@ -25,13 +25,15 @@ module _ (blank : ℕ → Bytes) (R : Recording) where
   came-from v (arrival ∷ es) p = came-from v es (p .1)
   came-from v (break ∷ es) p = came-from v es (p .1)
 
-  module _ (g : Given blank R) (es : List Event) (listed : Listed blank R es) where
-    pub came : Came (after blank R es)
-    came = came-from (g .valid) es listed
+module _ (d : Delivery) where
+  pub came : Came (d .blank) (d .recording) (end d)
+  came = came-from (d .blank) (d .recording) (d .given .valid) (d .events) (d .listed)
 
-    pub reached : WorldOk R blank (after blank R es)
-    reached = go came
-      where
-        go : Came (after blank R es) → WorldOk R blank (after blank R es)
-        go (unopened e) = subst (WorldOk R blank) (sym e) (fresh-ok R blank)
-        go (opened s) = run-ok R blank s (g .fits) (g .in-range) es (fresh blank) listed (fresh-ok R blank)
+  pub reached : WorldOk (d .recording) (d .blank) (end d)
+  reached = go came
+    where
+      go : Came (d .blank) (d .recording) (end d) → WorldOk (d .recording) (d .blank) (end d)
+      go (unopened e) = subst (WorldOk (d .recording) (d .blank)) (sym e) (fresh-ok (d .recording) (d .blank))
+      go (opened s) =
+          run-ok (d .recording) (d .blank) s (d .given .fits) (d .given .in-range) (d .events) (fresh (d .blank)) (d .listed)
+          (fresh-ok (d .recording) (d .blank))

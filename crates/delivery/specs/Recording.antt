@@ -73,6 +73,7 @@ abbrev pub All : {A : Type 0} → (A → Type 0) → List A → Type 0
 All P [] = Unit {0}
 All P (x ∷ xs) = P x × All P xs
 
+-- document 01's ranges; an I/O buffer's kind is 6 to 10
 unfoldable pub inRange : TimedRecord → Bool
 inRange (io k i) = both (both (leb 6 k) (leb k 10)) (ioFits i)
 inRange (window w) = windowFits w

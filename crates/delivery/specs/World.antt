@@ -80,7 +80,7 @@ abbrev pub areaOf : Option Place → ℕ → ℕ
 areaOf (some p) a = p .area
 areaOf none a = a
 
--- "having received none, it begins in a fresh area"
+-- "having received none, it begins in a fresh area"; "fresh (used length 0)"
 abbrev pub Fresh : World → Option Place → ℕ → Type 0
 Fresh w (some p) a = Unit {0}
 Fresh w none a = w .used a ≡ 0
