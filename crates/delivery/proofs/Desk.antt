@@ -24,12 +24,12 @@ use Rattle.session.specs.declared.Mark.{Mark}
 use Rattle.session.specs.declared.Mark.the-variants as mark
 use Rattle.session.specs.declared.Point.{Point}
 use Rattle.session.specs.declared.Point.the-variants as point
-use Rattle.delivery.specs.Recording.{TimedRecord, io, window, suspend, Recording, acceptRecord, recordOf, exitRecord, records, time, totalOf, All, ValidTimed, Valid, acceptOf}
+use Rattle.delivery.specs.Recording.{TimedRecord, io, window, suspend, Recording, acceptRecord, recordOf, exitRecord, records, time, totalOf, All, acceptOf}
 use Rattle.delivery.specs.Sender.{Sent, hello, accept, restart, timed, exit, rest, Reads, Says, Lines, member}
 use Rattle.delivery.specs.Host.{countedMember, counted, booked, WholeRestart, carries, notedMember, noted, Answer, toTick, toMessage, Desk, hand, handAll}
 use Rattle.delivery.specs.World.{isPoint, stoppedAfter}
 use Rattle.delivery.proofs.Totals.{kept, later, kept-later, atMost-is, kept-beginning, kept-exact, HeadLater, later-head}
-use Rattle.delivery.proofs.Values.{time-is}
+use Rattle.delivery.proofs.Values.{StorableTimed, Storable, time-is}
 use Rattle.delivery.proofs.Files.{all-append, all-right, all-map, total-of-append, begun, first, size, Count, nothing, some-of, whole, count, beginning-short, begun-unfinished, read-begun, whole-finished, read-whole, carries-is}
 use Rattle.delivery.proofs.Areas.{Lies, Next, next-below, next-room, lies-next, size-next, next-accept, next-timed, next-exit, meets-begun, lies-kept}
 use Rattle.delivery.proofs.Steps.{lengths-fit, room-for, step-hello, step-accept, begins, step-timed, step-exit, step-restart, resumes, step-finished, step-closed}
@@ -201,7 +201,7 @@ reads-some s (restart T) y = (restartMsg (y .values), y .reads)
 reads-some s (timed t) y = (member t, y)
 reads-some s (exit e) y = (exitMsg e, y)
 
-module _ (R : Recording) (valid : Valid R) (c : ℕ) (fits : length (fileBytes (records R)) ≤ c) (small : c ≤ 1073741824) where
+module _ (R : Recording) (storable : Storable R) (c : ℕ) (fits : length (fileBytes (records R)) ≤ c) (small : c ≤ 1073741824) where
   -- the desk after a message, where what the session gives and the book are known
   after : Client → Desk → Outcome → ℕ → Desk
   after m d o n = record {
@@ -234,7 +234,7 @@ module _ (R : Recording) (valid : Valid R) (c : ℕ) (fits : length (fileBytes (
     carried = carries (fileKind (take (d .used) (d .area)))
 
     carried-is : carried ≡ eqb (d .n) (length (records R))
-    carried-is = rw (i .lies .shows) (carries-is R valid (d .n) (i .within))
+    carried-is = rw (i .lies .shows) (carries-is R storable (d .n) (i .within))
 
     used-fits : d .used ≤ length (d .area)
     used-fits = omega (arith, i .lies .used-is, beginning-short R (d .n), i .sized)
@@ -277,7 +277,7 @@ module _ (R : Recording) (valid : Valid R) (c : ℕ) (fits : length (fileBytes (
         let x : Next R (d .n) a = rw z (next-accept R) in
         let u : d .used ≡ 0 = i .lies .used-is ∙ ap (λ (k : ℕ). length (fileBytes (take k (records R)))) z in
         stored-to (acceptMsg (acceptOf R)) a (begins (d .session) (d .area) (d .used) s (R .accept)) point.Absent (y .0 .read) x refl (λ w. refl)
-        (step-accept (d .session) (d .area) (d .used) s R valid (y .0) (y .1) o (lengths 0 u) (room a x (valid .accept-small)))
+        (step-accept (d .session) (d .area) (d .used) s R (storable .valid) (y .0) (y .1) o (lengths 0 u) (room a x (storable .accept-small)))
         (unpointed R (suc (d .n)) 0 (λ b. absurd (never b)))
         (λ f se us k. logging (record {
           stored-ones = [];
@@ -297,7 +297,7 @@ module _ (R : Recording) (valid : Valid R) (c : ℕ) (fits : length (fileBytes (
     timed-to l t ys y e m =
         let xs : List TimedRecord = l .stored-ones in
         let split : xs ++ t ∷ ys ≡ R .timed = ap (λ (z : List TimedRecord). xs ++ z) (sym e) ∙ l .split in
-        let v : ValidTimed t = all-right ValidTimed xs (t ∷ ys) (rw split (valid .timed-valid)) .0 in
+        let v : StorableTimed t = all-right StorableTimed xs (t ∷ ys) (rw split (storable .timed-storable)) .0 in
         let x : Next R (d .n) (recordOf t) = next-timed R (d .n) xs ys t split (l .n-is) in
         let delay : time t ≡ recordOf t .delay = time-is t v in
         let sums : totalOf xs + (time t + totalOf ys) ≡ totalOf (R .timed) = sym (total-of-append xs (t ∷ ys)) ∙ ap totalOf split in
@@ -305,7 +305,7 @@ module _ (R : Recording) (valid : Valid R) (c : ℕ) (fits : length (fileBytes (
         let after-it = marks-after R (d .n) (d .session) t xs ys split (l .n-is) (l .total-is) delay marks (eqb (recordOf t .delay) 0) refl in
         stored-to (member t) (recordOf t) (grown (d .session) (d .area) (d .used) (recordOf t)) point.Absent (y .read) x (counts-timed R t (d .n)) (notes-timed t)
         (step-timed (d .session) (d .area) (d .used) s t y (v .in-range) (l .state-is) (lengths (d .session .used) (l .used-same))
-        (omega (arith, l .total-is, valid .within-limit)) (not-at-mark R (d .n) (d .session) (d .area) (d .used) t ys (d .session .mark) delay marks) (room (recordOf t) x (v .small)))
+        (omega (arith, l .total-is, storable .valid .within-limit)) (not-at-mark R (d .n) (d .session) (d .area) (d .used) t ys (d .session .mark) delay marks) (room (recordOf t) x (v .small)))
         (unpointed R (suc (d .n)) 0 (λ b. absurd (never b)))
         (λ f se us k. logging (record {
           stored-ones = xs ++ (t ∷ []);
@@ -332,7 +332,7 @@ module _ (R : Recording) (valid : Valid R) (c : ℕ) (fits : length (fileBytes (
         stored-to (exitMsg (R .exit)) r
         (record { state = Closed; used = d .used + length (recordBytes r); total = d .session .total; low = d .session .low; mark = d .session .mark })
         (point.At (d .session .total)) (y .read) x refl (λ w. refl)
-        (step-exit (d .session) (d .area) (d .used) s (R .exit) y (valid .exit-in-range) (l .state-is) (lengths (d .session .used) (l .used-same)) (room r x (valid .exit-small)))
+        (step-exit (d .session) (d .area) (d .used) s (R .exit) y (storable .valid .exit-in-range) (l .state-is) (lengths (d .session .used) (l .used-same)) (room r x (storable .exit-small)))
         (record { is-total = λ T q. sym (at-same q) ∙ l .total-is ∙ ap totalOf all-of; is-whole = λ q. full })
         (λ f se us k. over (ap (λ (q : Session). q .state) se) (k ∙ full))
       where
@@ -405,7 +405,7 @@ module _ (R : Recording) (valid : Valid R) (c : ℕ) (fits : length (fileBytes (
     restart-finished : (v : Restart) → Reads s (restartMsg v) → restartFits v ≡ true → mayOpen (d .session .state) ≡ true → d .n ≡ length (records R) → To
     restart-finished v r h o k =
         refused-to (restartMsg v) 13 r refl
-        (step-finished (d .session) (d .area) (d .used) s v r h o (lengths (d .used) refl) (records R) (ap recordsOf (i .lies .shows) ∙ read-whole R valid (d .n) k) (whole-finished R valid))
+        (step-finished (d .session) (d .area) (d .used) s v r h o (lengths (d .used) refl) (records R) (ap recordsOf (i .lies .shows) ∙ read-whole R storable (d .n) k) (whole-finished R storable))
         k
 
     -- a restart that is taken
@@ -425,7 +425,7 @@ module _ (R : Recording) (valid : Valid R) (c : ℕ) (fits : length (fileBytes (
         let se : Session = resumes (d .session) (d .area) (d .used) s T (begun R xs) in
         rw (hand-is s (restartMsg v) d (storedTo se (d .area)) (suc (length K)) (r .read)
         (step-restart (d .session) (d .area) (d .used) s v r h o (lengths (d .used) refl) (begun R xs)
-        (ap recordsOf (i .lies .shows) ∙ ap (λ (z : ℕ). recordsOf (fileBytes (take z (records R)))) k ∙ read-begun R valid xs ys e) (begun-unfinished R valid xs ys e)
+        (ap recordsOf (i .lies .shows) ∙ ap (λ (z : ℕ). recordsOf (fileBytes (take z (records R)))) k ∙ read-begun R storable xs ys e) (begun-unfinished R storable xs ys e)
         (meets-begun R T xs (ap totalOf same ∙ g .reached)))
         (book-counts (restartMsg v) (d .n) below ∙ ap suc (atMost-is 0 T (R .timed))))
         (record {

@@ -13,9 +13,9 @@ use Rattle.record.specs.File.{Records, all, recordsOf, fileBytes, limit, total,
 use Rattle.record.proofs.Times.{rest-cons, accept-cons}
 use Rattle.record.proofs.Reading.{InRange, Ranged, no-records, one-more, records-of-file}
 use Rattle.record.proofs.Appends.{file-append, ranged-append, kind-exit, total-append}
-use Rattle.delivery.specs.Recording.{TimedRecord, Recording, acceptRecord, recordOf, exitRecord, records, time, totalOf, All, ValidTimed, Valid}
+use Rattle.delivery.specs.Recording.{TimedRecord, Recording, acceptRecord, recordOf, exitRecord, records, time, totalOf, All}
 use Rattle.delivery.specs.Host.{carries}
-use Rattle.delivery.proofs.Values.{timed-ranged, time-is, may-follow, exit-ranged, may-end}
+use Rattle.delivery.proofs.Values.{StorableTimed, Storable, timed-ranged, time-is, may-follow, exit-ranged, may-end}
 
 -- ---- lists
 
@@ -48,16 +48,21 @@ total-of-append xs ys = ap total (map-append xs ys) ∙ total-append (map record
 
 -- ---- timed records
 
-ranged-timed : (ts : List TimedRecord) → All ValidTimed ts → Ranged (map recordOf ts)
+ranged-timed : (ts : List TimedRecord) → All StorableTimed ts → Ranged (map recordOf ts)
 ranged-timed [] v = no-records
 ranged-timed (t ∷ ts) v = one-more (timed-ranged t (v .0)) (ranged-timed ts (v .1))
 
-rest-unfinished : (sum : ℕ) (ts : List TimedRecord) → All ValidTimed ts → sum + totalOf ts ≤ limit → restKind sum (map recordOf ts) ≡ unfinished
+rest-unfinished : (sum : ℕ) (ts : List TimedRecord) → All StorableTimed ts → sum + totalOf ts ≤ limit → restKind sum (map recordOf ts) ≡ unfinished
 unfolding restKind total
 rest-unfinished sum [] v h = refl
 rest-unfinished sum (t ∷ ts) v h =
     let d : time t ≡ recordOf t .delay = time-is t (v .0) in
     rest-cons sum (recordOf t) (map recordOf ts) (may-follow sum t (v .0) (omega arith)) ∙ rest-unfinished (sum + recordOf t .delay) ts (v .1) (omega arith)
+
+-- a file of no records carries no exit
+pub carries-none : carries (fileKind []) ≡ false
+unfolding carries fileKind kindOf fileBytes recordsKind
+carries-none = ap (λ (r : Records). carries (kindOf r)) (records-of-file [] no-records)
 
 -- ---- the first n records
 
@@ -108,37 +113,37 @@ module _ (R : Recording) where
       ∙ ap (λ (l : List Record). length (fileBytes l)) (take-append-drop n (records R)) in
       omega arith
 
-  -- ---- of a valid recording
+  -- ---- of a recording that can be stored
 
-  module _ (valid : Valid R) where
+  module _ (storable : Storable R) where
     accept-ranged : InRange (acceptRecord (R .accept))
     unfolding acceptRecord
-    accept-ranged = record { kind-fits = omega arith; delay-fits = omega arith; contents-fit = valid .accept-small }
+    accept-ranged = record { kind-fits = omega arith; delay-fits = omega arith; contents-fit = storable .accept-small }
 
-    begun-ranged : (xs : List TimedRecord) → All ValidTimed xs → Ranged (begun xs)
+    begun-ranged : (xs : List TimedRecord) → All StorableTimed xs → Ranged (begun xs)
     begun-ranged xs v = one-more accept-ranged (ranged-timed xs v)
 
     pub all-ranged : Ranged (records R)
     unfolding records
-    all-ranged = ranged-append (begun (R .timed)) (exitRecord (R .exit) ∷ []) (begun-ranged (R .timed) (valid .timed-valid))
-        (one-more (exit-ranged (R .exit) (valid .exit-in-range) (valid .exit-small)) no-records)
+    all-ranged = ranged-append (begun (R .timed)) (exitRecord (R .exit) ∷ []) (begun-ranged (R .timed) (storable .timed-storable))
+        (one-more (exit-ranged (R .exit) (storable .valid .exit-in-range) (storable .exit-small)) no-records)
 
     pub begun-unfinished : (xs ys : List TimedRecord) → xs ++ ys ≡ R .timed → recordsKind (begun xs) ≡ unfinished
     unfolding acceptRecord
     begun-unfinished xs ys e =
         let sums : totalOf xs + totalOf ys ≡ totalOf (R .timed) = sym (total-of-append xs ys) ∙ ap totalOf e in
         accept-cons (acceptRecord (R .accept)) (map recordOf xs) refl refl
-        ∙ rest-unfinished 0 xs (all-left ValidTimed xs ys (rw e (valid .timed-valid))) (omega (arith, valid .within-limit))
+        ∙ rest-unfinished 0 xs (all-left StorableTimed xs ys (rw e (storable .timed-storable))) (omega (arith, storable .valid .within-limit))
 
     pub whole-finished : recordsKind (records R) ≡ finished
     unfolding records
-    whole-finished = kind-exit (begun (R .timed)) (exitRecord (R .exit)) (begun-unfinished (R .timed) [] (append-nil (R .timed))) (may-end (R .exit) (valid .exit-in-range))
+    whole-finished = kind-exit (begun (R .timed)) (exitRecord (R .exit)) (begun-unfinished (R .timed) [] (append-nil (R .timed))) (may-end (R .exit) (storable .valid .exit-in-range))
 
     -- what the bytes read as
     pub read-begun : (xs ys : List TimedRecord) → xs ++ ys ≡ R .timed → recordsOf (fileBytes (take (suc (length xs)) (records R))) ≡ all (begun xs)
     read-begun xs ys e =
         ap (λ (l : List Record). recordsOf (fileBytes l)) (first xs ys e)
-        ∙ records-of-file (begun xs) (begun-ranged xs (all-left ValidTimed xs ys (rw e (valid .timed-valid))))
+        ∙ records-of-file (begun xs) (begun-ranged xs (all-left StorableTimed xs ys (rw e (storable .timed-storable))))
 
     take-whole : (n : ℕ) → n ≡ length (records R) → take n (records R) ≡ records R
     take-whole n e = take-all n (records R) (omega arith)

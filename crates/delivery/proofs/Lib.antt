@@ -1,12 +1,15 @@
 pub mod Totals
 pub mod Cutting
 pub mod Values
+pub mod Sizes
 pub mod Files
 pub mod Steps
 pub mod Areas
 pub mod Desk
 pub mod Runs
+pub mod Reached
 pub mod Demand
 pub mod Story
 pub mod Restarting
 pub mod Progress
+pub mod Examples

@@ -15,17 +15,20 @@ use Rattle.laws.specs.Base.{pick}
 use Rattle.message.specs.Message.{Bytes}
 use Rattle.record.specs.File.{fileBytes, limit}
 use Rattle.session.specs.Step as session
-use Rattle.delivery.specs.Recording.{TimedRecord, Recording, records, time, greater, All, Valid}
+use Rattle.delivery.specs.Recording.{TimedRecord, Recording, records, time, greater, All}
 use Rattle.delivery.specs.Sender.{Place, Sent, accept, restart, timed, exit, rest, messages, Says, Lines}
 use Rattle.delivery.specs.Host.{frames, Answer, toTick, toMessage, Desk}
 use Rattle.delivery.specs.World.{Connection, World, fresh, Event, opening, bytes, tick, arrival, break, withConnection, areaOf, opened, desk, settled, cameIn, arrived, inside, outside, happens, run, Fresh, Proper, AllProper}
-use Rattle.delivery.specs.Demand.{Given, Listed, after}
+use Rattle.delivery.specs.Demand.{Listed, Delivery, end}
 use Rattle.delivery.specs.Progress.{Sendable, underWay, TellsEnd, Done, GoesOn, Progress}
 use Rattle.delivery.proofs.Restarting.{restartable}
+use Rattle.delivery.proofs.Values.{Storable}
+use Rattle.delivery.proofs.Sizes.{storable-sent}
 use Rattle.delivery.proofs.Cutting.{Short, drain-short, none-left}
 use Rattle.delivery.proofs.Files.{all-map}
 use Rattle.delivery.proofs.Desk.{AnswerOk, Lead, Stage, beginning, resuming, logging, over, Inv}
-use Rattle.delivery.proofs.Runs.{Whole, Link, LinkOk, WorldOk, fresh-ok, run-ok, LatestOk}
+use Rattle.delivery.proofs.Runs.{Whole, Link, LinkOk, WorldOk, run-ok, LatestOk}
+use Rattle.delivery.proofs.Reached.{reached}
 
 -- ---- lists one behind the other
 
@@ -78,17 +81,17 @@ opened-bounded w bs a b = record {
   };
 }
 
-outside-bounded : (R : Recording) (w : World) (e : Event) → Bounded w → Bounded (outside R w e)
+outside-bounded : (w : World) (e : Event) → Bounded w → Bounded (outside w e)
 unfolding outside
-outside-bounded R w (opening h bs a) b = go (w .stopped)
+outside-bounded w (opening h bs a) b = go (w .stopped)
   where
     go : (x : Bool) → Bounded (pick x w (opened w bs a))
     go true = b
     go false = opened-bounded w bs a b
-outside-bounded R w (bytes k) b = b
-outside-bounded R w tick b = b
-outside-bounded R w arrival b = b
-outside-bounded R w break b = b
+outside-bounded w (bytes k) b = b
+outside-bounded w tick b = b
+outside-bounded w arrival b = b
+outside-bounded w break b = b
 
 -- in a connection, whose area is below the bound
 module _ (R : Recording) (w : World) (c : Connection) (n : ℕ) (from : (a : ℕ) → n ≤ a → w .used a ≡ 0) (here : c .area < n) (latest : PlaceBelow n (w .latest)) where
@@ -117,7 +120,7 @@ module _ (R : Recording) (w : World) (c : Connection) (n : ℕ) (from : (a : ℕ
 
 happens-bounded : (R : Recording) (w : World) (o : Option Connection) (e : Event) → w .connection ≡ o → Bounded w → Bounded (happens R w o e)
 unfolding happens
-happens-bounded R w none e q b = outside-bounded R w e b
+happens-bounded R w none e q b = outside-bounded w e b
 happens-bounded R w (some c) e q b = inside-bounded R w c (b .bound) (b .unused .from) (rw q at (b .unused .connected)) (b .unused .latest-there) e b
 
 run-bounded : (R : Recording) (es : List Event) (w : World) → Bounded w → Bounded (run R es w)
@@ -211,8 +214,8 @@ module _ (R : Recording) (blank : ℕ → Bytes) where
     proper : AllProper R more w
     whole : Whole R (run R more w .book)
 
-  module _ (valid : Valid R) (fits : (a : ℕ) → length (fileBytes (records R)) ≤ length (blank a)) (small : (a : ℕ) → length (blank a) ≤ 1073741824) where
-    module _ (w : World) (ok : WorldOk R blank w) (unconnected : w .connection ≡ none) (on : w .stopped ≡ false) (a : ℕ) (is-fresh : Fresh R w (w .latest) a)
+  module _ (storable : Storable R) (fits : (a : ℕ) → length (fileBytes (records R)) ≤ length (blank a)) (small : (a : ℕ) → length (blank a) ≤ 1073741824) where
+    module _ (w : World) (ok : WorldOk R blank w) (unconnected : w .connection ≡ none) (on : w .stopped ≡ false) (a : ℕ) (is-fresh : Fresh w (w .latest) a)
         (l : Lined (messages R (w .latest))) where
       line : Bytes
       line = frames (l .bodies)
@@ -226,15 +229,15 @@ module _ (R : Recording) (blank : ℕ → Bytes) where
       connection : Connection
       connection = record { area = areaOf (w .latest) a; session = session.opened; line = line; out = [] }
 
-      end : World
-      end = inside R start connection (bytes (length line))
+      finish : World
+      finish = inside R start connection (bytes (length line))
 
       opens : happens R w (w .connection) (opening false (l .bodies) a) ≡ start
       unfolding happens outside start
       opens = rw (unconnected, on)
 
-      runs : run R last w ≡ end
-      unfolding last run happens end start connection opened line
+      runs : run R last w ≡ finish
+      unfolding last run happens finish start connection opened line
       runs = ap (λ (x : World). happens R x (x .connection) (bytes (length line))) opens
 
       is-proper : AllProper R last w
@@ -243,19 +246,19 @@ module _ (R : Recording) (blank : ℕ → Bytes) where
           let x : World = happens R w (w .connection) (opening false (l .bodies) a) in
           (subst (λ (o : Option Connection). Proper R w o (opening false (l .bodies) a)) (sym unconnected) (λ e. (l .lines, is-fresh)), (bytes-proper x (x .connection) (length line), tt))
 
-      end-ok : WorldOk R blank end
-      end-ok = subst (WorldOk R blank) runs (run-ok R blank valid fits small last w is-proper ok)
+      finish-ok : WorldOk R blank finish
+      finish-ok = subst (WorldOk R blank) runs (run-ok R blank storable fits small last w is-proper ok)
 
-      end-whole : end .book (areaOf (w .latest) a) ≡ length (records R)
-      unfolding end start connection inside cameIn opened line
-      end-whole =
-          came-whole end _ end-ok refl (drop-of-length-le line (le-refl (length line)))
+      finish-whole : finish .book (areaOf (w .latest) a) ≡ length (records R)
+      unfolding finish start connection inside cameIn opened line
+      finish-whole =
+          came-whole finish _ finish-ok refl (drop-of-length-le line (le-refl (length line)))
           (drain-short (length (w .part ++ take (length line) line)) (w .part ++ take (length line) line) (le-refl _))
 
       goes-last : Goes w
-      goes-last = record { more = last; proper = is-proper; whole = record { place = areaOf (w .latest) a; is-whole = ap (λ (x : World). x .book (areaOf (w .latest) a)) runs ∙ end-whole } }
+      goes-last = record { more = last; proper = is-proper; whole = record { place = areaOf (w .latest) a; is-whole = ap (λ (x : World). x .book (areaOf (w .latest) a)) runs ∙ finish-whole } }
 
-    fresh-at : (w : World) (b : Bounded w) (p : Option Place) → Fresh R w p (b .bound)
+    fresh-at : (w : World) (b : Bounded w) (p : Option Place) → Fresh w p (b .bound)
     fresh-at w b none = b .unused .from (b .bound) (le-refl (b .bound))
     fresh-at w b (some p) = tt
 
@@ -263,7 +266,7 @@ module _ (R : Recording) (blank : ℕ → Bytes) where
     point-within : (w : World) → WorldOk R blank w → (p : Place) → w .latest ≡ some p → p .at ≤ limit
     point-within w ok p e =
         let g : LatestOk R (w .book) (some p) = subst (LatestOk R (w .book)) e (ok .latest-ok) in
-        omega (arith, g .below, valid .within-limit)
+        omega (arith, g .below, storable .valid .within-limit)
 
     module _ (sends : Sendable R) where
       unconnected-goes : (w : World) → WorldOk R blank w → Bounded w → w .connection ≡ none → Goes w
@@ -286,7 +289,7 @@ module _ (R : Recording) (blank : ℕ → Bytes) where
           go (some c) e =
               let proper : Proper R w (w .connection) break = subst (λ (o : Option Connection). Proper R w o break) (sym e) tt in
               let broken : happens R w (w .connection) break ≡ inside R w c break = ap (λ (o : Option Connection). happens R w o break) e in
-              let ok′ : WorldOk R blank (inside R w c break) = subst (WorldOk R blank) broken (run-ok R blank valid fits small (break ∷ []) w (proper, tt) ok) in
+              let ok′ : WorldOk R blank (inside R w c break) = subst (WorldOk R blank) broken (run-ok R blank storable fits small (break ∷ []) w (proper, tt) ok) in
               let b′ : Bounded (inside R w c break) = subst Bounded broken (run-bounded R (break ∷ []) w b) in
               let g : Goes (inside R w c break) = unconnected-goes (inside R w c break) ok′ b′ refl in
               record {
@@ -297,40 +300,39 @@ module _ (R : Recording) (blank : ℕ → Bytes) where
 
 -- ---- the claim
 
-module _ (blank : ℕ → Bytes) where
-  module _ (R : Recording) (g : Given blank R) where
-    ok-after : (es : List Event) → Listed blank R es → WorldOk R blank (after blank R es)
-    ok-after es p = run-ok R blank (g .valid) (g .fits) (g .in-range) es (fresh blank) p (fresh-ok R blank)
+module _ (R : Recording) where
+  done : (blank : ℕ → Bytes) (w : World) → WorldOk R blank w → Whole R (w .book) → Done R w
+  done blank w ok x = record {
+    area = x .place;
+    whole = ok .areas (x .place) .lies .shows ∙ ap (λ (k : ℕ). fileBytes (take k (records R))) (x .is-whole) ∙ ap fileBytes (take-length (records R));
+  }
 
-    done : (w : World) → WorldOk R blank w → Whole R (w .book) → Done blank R w
-    done w ok x = record {
-      area = x .place;
-      whole = ok .areas (x .place) .lies .shows ∙ ap (λ (k : ℕ). fileBytes (take k (records R))) (x .is-whole) ∙ ap fileBytes (take-length (records R));
+  tells : (n : ℕ) (a : Answer) → AnswerOk R n a → TellsEnd R a
+  tells n (toTick T) h = h .below
+  tells n (toMessage k p) h = h .is-total
+
+  under-way : (blank : ℕ → Bytes) (w : World) (o : Option Connection) → LinkOk R blank w o → All (TellsEnd R) (underWay o)
+  unfolding desk
+  under-way blank w none l = tt
+  under-way blank w (some c) l = all-map (AnswerOk R (w .book (c .area))) (TellsEnd R) (tells (w .book (c .area))) (c .out) (l .inv .out-ok)
+
+on-from : (d : Delivery) → Sendable (d .recording) → GoesOn d
+on-from d s =
+    let R : Recording = d .recording in
+    let x : Goes R (d .blank) (end d) = goes R (d .blank) (storable-sent R (d .given .valid) s) (d .given .fits) (d .given .in-range) s (end d) (reached d)
+    (run-bounded R (d .events) (fresh (d .blank)) (fresh-bounded (d .blank))) in
+    let all : Listed (d .blank) R (d .events ++ x .more) = proper-append R (d .events) (x .more) (fresh (d .blank)) (d .listed) (x .proper) in
+    let longer : Delivery = record { recording = R; blank = d .blank; given = d .given; events = d .events ++ x .more; listed = all } in
+    record {
+      more = x .more;
+      listed = all;
+      done = done R (d .blank) (end longer) (reached longer)
+          (subst (λ (w : World). Whole R (w .book)) (sym (run-append R (d .events) (x .more) (fresh (d .blank)))) (x .whole));
     }
 
-    tells : (n : ℕ) (a : Answer) → AnswerOk R n a → TellsEnd R a
-    tells n (toTick T) h = h .below
-    tells n (toMessage k p) h = h .is-total
-
-    under-way : (w : World) (o : Option Connection) → LinkOk R blank w o → All (TellsEnd R) (underWay o)
-    unfolding desk
-    under-way w none l = tt
-    under-way w (some c) l = all-map (AnswerOk R (w .book (c .area))) (TellsEnd R) (tells (w .book (c .area))) (c .out) (l .inv .out-ok)
-
-    on-from : Sendable R → (es : List Event) → Listed blank R es → GoesOn blank R es
-    on-from s es p =
-        let x : Goes R blank (after blank R es) = goes R blank (g .valid) (g .fits) (g .in-range) s (after blank R es) (ok-after es p) (run-bounded R es (fresh blank) (fresh-bounded blank)) in
-        let q : Listed blank R (es ++ x .more) = proper-append R es (x .more) (fresh blank) p (x .proper) in
-        record {
-          more = x .more;
-          listed = q;
-          done = done (after blank R (es ++ x .more)) (ok-after (es ++ x .more) q)
-              (subst (λ (w : World). Whole R (w .book)) (sym (run-append R es (x .more) (fresh blank))) (x .whole));
-        }
-
-  pub progress : Progress blank
-  progress = record {
-    stopped = λ R g es p h. done R g (after blank R es) (ok-after R g es p) (ok-after R g es p .stopped-ok h);
-    points = λ R g es p. under-way R g (after blank R es) (after blank R es .connection) (ok-after R g es p .link);
-    goes-on = λ R g s es p. on-from R g s es p;
-  }
+pub progress : Progress
+progress = record {
+  stopped = λ d h. done (d .recording) (d .blank) (end d) (reached d) (reached d .stopped-ok h);
+  points = λ d. under-way (d .recording) (d .blank) (end d) (end d .connection) (reached d .link);
+  goes-on = on-from;
+}

@@ -24,12 +24,13 @@ use Rattle.session.specs.declared.Mark.{Mark}
 use Rattle.session.specs.declared.Mark.the-variants as mark
 use Rattle.session.specs.declared.Point.{Point}
 use Rattle.session.specs.declared.Point.the-variants as point
-use Rattle.delivery.specs.Recording.{TimedRecord, Recording, acceptRecord, recordOf, exitRecord, records, All, Valid}
-use Rattle.delivery.specs.Sender.{Place, Sent, accept, messages, withHello, Lines}
+use Rattle.delivery.specs.Recording.{TimedRecord, Recording, acceptRecord, recordOf, exitRecord, records, All}
+use Rattle.delivery.specs.Sender.{Place, Sent, messages, withHello, Lines}
 use Rattle.delivery.specs.Host.{frames, Drained, cutAll, booked, Answer, toTick, toMessage, Desk, hand, handAll}
 use Rattle.delivery.specs.World.{Connection, World, fresh, Event, opening, bytes, tick, arrival, break, withConnection, opened, put, desk, settled, cameIn, tickAnswers, stoppedAfter, arrived, inside, outside, happens, run, Fresh, Proper, AllProper}
 use Rattle.delivery.proofs.Totals.{greater-is}
 use Rattle.delivery.proofs.Cutting.{Fits, Left, drained}
+use Rattle.delivery.proofs.Values.{Storable}
 use Rattle.delivery.proofs.Files.{all-append, all-right}
 use Rattle.delivery.proofs.Areas.{Lies}
 use Rattle.delivery.proofs.Desk.{Good, PointOk, AnswerOk, Quiet, MarkOk, Lead, Stage, beginning, resuming, logging, over, RestartOk, Inv, reads-some, all-handed}
@@ -330,7 +331,7 @@ module _ (R : Recording) (blank : ℕ → Bytes) where
       absurd (omega (arith, h .lies .used-is, length-append (recordBytes (acceptRecord (R .accept))) (fileBytes (take n (map recordOf (R .timed) ++ (exitRecord (R .exit) ∷ [])))), length-record (acceptRecord (R .accept))))
 
   opened-ok : (w : World) (l : Option Place) (h : Bool) (bs : List Bytes) (a : ℕ) → WorldOk w → w .part ≡ [] → w .latest ≡ l
-      → Lines bs (withHello h (messages R l)) → Fresh R w l a → WorldOk (opened w bs a)
+      → Lines bs (withHello h (messages R l)) → Fresh w l a → WorldOk (opened w bs a)
   unfolding opened desk messages
   opened-ok w (some p) h bs a ok part e lined t = record {
     sizes = ok .sizes;
@@ -383,7 +384,7 @@ module _ (R : Recording) (blank : ℕ → Bytes) where
     });
   }
 
-  outside-ok : (w : World) (e : Event) → Proper R w none e → WorldOk w → w .part ≡ [] → WorldOk (outside R w e)
+  outside-ok : (w : World) (e : Event) → Proper R w none e → WorldOk w → w .part ≡ [] → WorldOk (outside w e)
   unfolding outside Proper
   outside-ok w (opening h bs a) p ok part = go (w .stopped) refl
     where
@@ -397,7 +398,7 @@ module _ (R : Recording) (blank : ℕ → Bytes) where
 
   -- ---- of a recording that is given
 
-  module _ (valid : Valid R) (fits : (a : ℕ) → length (fileBytes (records R)) ≤ length (blank a)) (small : (a : ℕ) → length (blank a) ≤ 1073741824) where
+  module _ (storable : Storable R) (fits : (a : ℕ) → length (fileBytes (records R)) ≤ length (blank a)) (small : (a : ℕ) → length (blank a) ≤ 1073741824) where
     bytes-ok : (w : World) (c : Connection) (k : ℕ) → WorldOk w → Link w c → WorldOk (inside R w c (bytes k))
     unfolding inside cameIn desk
     bytes-ok w c k ok l =
@@ -408,7 +409,7 @@ module _ (R : Recording) (blank : ℕ → Bytes) where
         go : (b : Drained) → Left (l .bodies) (drop k (c .line)) b → WorldOk (cameIn R w c (drop k (c .line)) b)
         go b left =
             let a : ℕ = c .area in
-            let h = all-handed R valid (length (blank a)) (fits a) (small a) (l .sees) (b .messages) (left .coming) (l .coming) (desk w c)
+            let h = all-handed R storable (length (blank a)) (fits a) (small a) (l .sees) (b .messages) (left .coming) (l .coming) (desk w c)
             (rw (left .split) at (l .read-as)) (l .inv) in
             settled-ok w c (handAll R (b .messages) (desk w c)) (drop k (c .line)) (b .left) (l .sees) (left .coming) (h .more) ok (l .latest-is) (left .lined)
             (all-right Fits (b .messages) (left .coming) (rw (left .split) at (l .fit))) (h .read-as) (h .keeps) (λ e. full-stays (b .messages) (desk w c) e)

@@ -48,13 +48,8 @@ story = record {
       announces = refl;
       accept-in-range = refl;
       entries-there = refl;
-      accept-small = omega arith;
-      timed-valid = (
-        record { in-range = refl; small = omega arith },
-        (record { in-range = refl; small = omega arith }, (record { in-range = refl; small = omega arith }, (record { in-range = refl; small = omega arith }, tt))),
-      );
+      timed-in-range = (refl, (refl, (refl, (refl, tt))));
       exit-in-range = refl;
-      exit-small = omega arith;
       within-limit = omega arith;
     };
     fits = λ a. omega arith;
@@ -149,5 +144,9 @@ story = record {
 }
 
 -- what demand 3 says of it
-told : (a : ℕ) → w.file (x.after o.blank o.recording o.story) a ≡ f.fileBytes (take (x.after o.blank o.recording o.story .book a) (r.records o.recording))
-told a = demand-3 o.blank .files o.recording (story .given) o.story (story .listed) a
+delivery : x.Delivery
+delivery = record { recording = o.recording; blank = o.blank; given = story .given; events = o.story; listed = story .listed }
+
+told : (a : ℕ) → w.file (x.end delivery) a ≡ f.fileBytes (take (x.end delivery .book a) (r.records o.recording))
+unfolding delivery
+told a = demand-3 .files delivery a

@@ -1,4 +1,4 @@
--- A valid recording's values: their records are in range, may follow and may end a file, and tell the values.
+-- A recording's values, where they can be stored: their records are in range, may follow and may end a file, and tell the values.
 use Prim.Native.Nat.{ℕ, suc, _+_, _*_, _%_, _≤_}
 use native.Mathlib.Omega.{arith}
 use mathlib.Core.Path.{_≡_, refl, ap, sym, _∙_}
@@ -21,7 +21,24 @@ use Rattle.record.specs.File.{limit, timeOf, mayFollow, mayEnd}
 use Rattle.record.proofs.Numbers.{length-digits, value-digits}
 use Rattle.record.proofs.Reading.{InRange}
 use Rattle.session.specs.Step.{natural, moment}
-use Rattle.delivery.specs.Recording.{TimedRecord, io, window, suspend, recordOf, exitRecord, time, inRange, Small, ValidTimed}
+use Rattle.delivery.specs.Recording.{TimedRecord, io, window, suspend, Recording, acceptRecord, recordOf, exitRecord, time, inRange, All, Valid}
+
+-- ---- what can be stored
+
+-- the header's length goes so far
+abbrev pub Small : Record → Type 0
+Small r = length (r .contents) ≤ 2097152
+
+pub record StorableTimed (t : TimedRecord) : Type 0 where
+  pub in-range : inRange t ≡ true
+  pub small : Small (recordOf t)
+
+-- a valid recording whose data are not too long: those that some messages say (Sizes)
+pub record Storable (R : Recording) : Type 0 where
+  pub valid : Valid R
+  pub accept-small : Small (acceptRecord (R .accept))
+  pub timed-storable : All StorableTimed (R .timed)
+  pub exit-small : Small (exitRecord (R .exit))
 
 -- ---- numbers and moments
 
@@ -82,7 +99,7 @@ window-same a b c d p q r s e =
     let x = append-same (digits 2 a) (digits 2 b) (digits 2 c) (digits 2 d) (length-digits 2 a ∙ sym (length-digits 2 c)) e in
     (two-digits a c p r (x .0), two-digits b d q s (x .1))
 
-length-window : (a b : ℕ) → length (windowBytes a b) ≡ 4
+pub length-window : (a b : ℕ) → length (windowBytes a b) ≡ 4
 unfolding windowBytes
 length-window a b = omega (arith, length-append (digits 2 a) (digits 2 b), length-digits 2 a, length-digits 2 b)
 
@@ -147,7 +164,7 @@ stored (suspend s) e =
     let p = suspend-in s e in
     record { from = omega arith; to = omega arith; fits = p .1; most = moment-most (s .delay) (p .0) }
 
-pub timed-ranged : (t : TimedRecord) → ValidTimed t → InRange (recordOf t)
+pub timed-ranged : (t : TimedRecord) → StorableTimed t → InRange (recordOf t)
 timed-ranged t v =
     let s = stored t (v .in-range) in
     record { kind-fits = omega (arith, s .to); delay-fits = s .most; contents-fit = v .small }
@@ -157,11 +174,11 @@ unfolding isTimed
 timed-kind r s = rw (le-leb 6 (r .kind) (s .from), le-leb (r .kind) 12 (s .to))
 
 -- its time is its delay
-pub time-is : (t : TimedRecord) → ValidTimed t → time t ≡ recordOf t .delay
+pub time-is : (t : TimedRecord) → StorableTimed t → time t ≡ recordOf t .delay
 unfolding timeOf
 time-is t v = rw (timed-kind (recordOf t) (stored t (v .in-range)))
 
-pub may-follow : (sum : ℕ) (t : TimedRecord) → ValidTimed t → sum + recordOf t .delay ≤ limit → mayFollow sum (recordOf t) ≡ true
+pub may-follow : (sum : ℕ) (t : TimedRecord) → StorableTimed t → sum + recordOf t .delay ≤ limit → mayFollow sum (recordOf t) ≡ true
 unfolding mayFollow
 may-follow sum t v h =
     let s = stored t (v .in-range) in
@@ -222,7 +239,7 @@ record-same (suspend s) (io l j) p q e d c = let h = io-in l j q .1 in absurd (o
 record-same (suspend s) (window w) p q e d c = absurd (omega arith)
 record-same (suspend s) (suspend r) p q e d c = ap suspend (timed-same s r (suspend-in s p .0) (suspend-in r q .0) d c)
 
-pub same-timed : (t u : TimedRecord) → ValidTimed t → ValidTimed u → recordOf t ≡ recordOf u → t ≡ u
+pub same-timed : (t u : TimedRecord) → StorableTimed t → StorableTimed u → recordOf t ≡ recordOf u → t ≡ u
 same-timed t u v w e =
     record-same t u (v .in-range) (w .in-range) (ap (λ (r : Record). r .kind) e) (ap (λ (r : Record). r .delay) e) (ap (λ (r : Record). r .contents) e)
 

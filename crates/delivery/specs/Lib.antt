@@ -5,3 +5,4 @@ pub mod World
 pub mod Demand
 pub mod Progress
 pub mod Story
+pub mod Examples

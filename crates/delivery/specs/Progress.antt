@@ -12,7 +12,7 @@ use Rattle.delivery.specs.Recording.{TimedRecord, Recording, records, to
 use Rattle.delivery.specs.Sender.{accept, timed, exit, Says}
 use Rattle.delivery.specs.Host.{Answer, toTick, toMessage}
 use Rattle.delivery.specs.World.{Connection, World, Event, file}
-use Rattle.delivery.specs.Demand.{Given, Listed, after}
+use Rattle.delivery.specs.Demand.{Listed, after, Delivery, end}
 
 -- some message says each of the recording's records. Document 01: "A valid message fits a frame and passes reader, ..".
 pub record Sendable (R : Recording) : Type 0 where
@@ -30,21 +30,20 @@ abbrev pub TellsEnd : Recording → Answer → Type 0
 TellsEnd R (toTick T) = T < totalOf (R .timed)
 TellsEnd R (toMessage k p) = (T : ℕ) → p ≡ point.At T → T ≡ totalOf (R .timed)
 
-module _ (blank : ℕ → Bytes) where
-  -- an area's file holds the whole recording
-  pub record Done (R : Recording) (w : World) : Type 0 where
-    pub area : ℕ
-    pub whole : file w area ≡ fileBytes (records R)
+-- an area's file holds the whole recording
+pub record Done (R : Recording) (w : World) : Type 0 where
+  pub area : ℕ
+  pub whole : file w area ≡ fileBytes (records R)
 
-  -- the list goes on to one
-  pub record GoesOn (R : Recording) (es : List Event) : Type 0 where
-    pub more : List Event
-    pub listed : Listed blank R (es ++ more)
-    pub done : Done R (after blank R (es ++ more))
+-- the list goes on to one
+pub record GoesOn (d : Delivery) : Type 0 where
+  pub more : List Event
+  pub listed : Listed (d .blank) (d .recording) (d .events ++ more)
+  pub done : Done (d .recording) (after (d .blank) (d .recording) (d .events ++ more))
 
-  pub record Progress : Type 0 where
-    -- "It stops at its exit's point or at the refusal "finished"": by then a file holds all
-    pub stopped : (R : Recording) → Given blank R → (es : List Event) → Listed blank R es → after blank R es .stopped ≡ true → Done R (after blank R es)
-    -- the sender could tell its exit's point from a tick's by its value
-    pub points : (R : Recording) → Given blank R → (es : List Event) → Listed blank R es → All (TellsEnd R) (underWay (after blank R es .connection))
-    pub goes-on : (R : Recording) → Given blank R → Sendable R → (es : List Event) → Listed blank R es → GoesOn R es
+pub record Progress : Type 0 where
+  -- "It stops at its exit's point or at the refusal "finished"": by then a file holds all
+  pub stopped : (d : Delivery) → end d .stopped ≡ true → Done (d .recording) (end d)
+  -- the sender could tell its exit's point from a tick's by its value
+  pub points : (d : Delivery) → All (TellsEnd (d .recording)) (underWay (end d .connection))
+  pub goes-on : (d : Delivery) → Sendable (d .recording) → GoesOn d

@@ -5,7 +5,6 @@ use Prim.Native.Nat.{ℕ, suc, _+_, _≤_}
 use mathlib.Core.Path.{_≡_}
 use mathlib.Core.Bool.{Bool, true}
 use mathlib.Core.List.{List, [], _∷_, _++_, map}
-use lib.ListN.{length}
 use lib.Dec.{leb}
 use Rattle.laws.specs.Base.{pick, both}
 use Rattle.encoding.specs.Items.{items}
@@ -68,24 +67,17 @@ greater sum T [] = []
 greater sum T (t ∷ ts) = pick (leb (sum + time t) T) (greater (sum + time t) T ts) (t ∷ greater (sum + time t) T ts)
 
 -- ---- "all valid, its delays summing within the limit". Document 01: "A valid message fits a frame and passes reader, ranges and
--- entries." That its messages pass the reader is said of each message (`Says` in Sender). A message that fits a frame has no data
--- above 2,097,152 bytes; of that no more is asked here.
+-- entries." That its messages fit a frame and pass the reader is said of each message (`Says` in Sender).
 
 abbrev pub All : {A : Type 0} → (A → Type 0) → List A → Type 0
 All P [] = Unit {0}
 All P (x ∷ xs) = P x × All P xs
 
+-- document 01's ranges; an I/O buffer's kind is 6 to 10
 unfoldable pub inRange : TimedRecord → Bool
 inRange (io k i) = both (both (leb 6 k) (leb k 10)) (ioFits i)
 inRange (window w) = windowFits w
 inRange (suspend s) = suspendFits s
-
-abbrev pub Small : Record → Type 0
-Small r = length (r .contents) ≤ 2097152
-
-pub record ValidTimed (t : TimedRecord) : Type 0 where
-  pub in-range : inRange t ≡ true
-  pub small : Small (recordOf t)
 
 -- the values of the accept's bytes
 abbrev pub acceptOf : Recording → m.Accept
@@ -95,8 +87,6 @@ pub record Valid (R : Recording) : Type 0 where
   pub announces : acceptOf R .expectIobufs ≡ true
   pub accept-in-range : acceptFits (acceptOf R) ≡ true
   pub entries-there : entriesRefusal (acceptOf R .infoMsgs) ≡ 0
-  pub accept-small : Small (acceptRecord (R .accept))
-  pub timed-valid : All ValidTimed (R .timed)
+  pub timed-in-range : All (λ (t : TimedRecord). inRange t ≡ true) (R .timed)
   pub exit-in-range : exitFits (R .exit) ≡ true
-  pub exit-small : Small (exitRecord (R .exit))
   pub within-limit : totalOf (R .timed) ≤ limit

@@ -57,6 +57,7 @@ member (suspend s) = suspendEvent s
 abbrev pub received : Bytes → Bytes
 received s = bytesOf (lastItem 1 13 (items s))
 
+-- "a valid restart", at T
 pub record SaysRestart (s : Bytes) (T : ℕ) : Type 0 where
   pub values : Restart
   pub reads : Reads s (restartMsg values)

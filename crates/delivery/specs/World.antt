@@ -80,6 +80,11 @@ abbrev pub areaOf : Option Place → ℕ → ℕ
 areaOf (some p) a = p .area
 areaOf none a = a
 
+-- "having received none, it begins in a fresh area"; "fresh (used length 0)"
+abbrev pub Fresh : World → Option Place → ℕ → Type 0
+Fresh w (some p) a = Unit {0}
+Fresh w none a = w .used a ≡ 0
+
 unfoldable pub opened : World → List Bytes → ℕ → World
 opened w bodies a =
     withConnection w (w .latest) (w .stopped) (w .part)
@@ -139,6 +144,14 @@ arrived w c (a ∷ out) =
 
 -- ---- one event
 
+-- "An opening in a connection or after the sender's stop does nothing, and so does any other event outside a connection."
+unfoldable pub outside : World → Event → World
+outside w (opening h bodies a) = pick (w .stopped) w (opened w bodies a)
+outside w (bytes k) = w
+outside w tick = w
+outside w arrival = w
+outside w break = w
+
 module _ (R : Recording) where
   -- in a connection; "A break loses all that is lined up, cut in part or under way."
   unfoldable pub inside : World → Connection → Event → World
@@ -150,14 +163,6 @@ module _ (R : Recording) where
   inside w c arrival = arrived w c (c .out)
   inside w c break = withConnection w (w .latest) (w .stopped) [] none
 
-  -- "An opening in a connection or after the sender's stop does nothing, and so does any other event outside a connection."
-  unfoldable pub outside : World → Event → World
-  outside w (opening h bodies a) = pick (w .stopped) w (opened w bodies a)
-  outside w (bytes k) = w
-  outside w tick = w
-  outside w arrival = w
-  outside w break = w
-
   unfoldable pub happens : World → Option Connection → Event → World
   happens w none e = outside w e
   happens w (some c) e = inside w c e
@@ -167,11 +172,6 @@ module _ (R : Recording) where
   run (e ∷ es) w = run es (happens w (w .connection) e)
 
   -- ---- a list of document 01's events
-
-  -- "having received none, it begins in a fresh area"
-  abbrev pub Fresh : World → Option Place → ℕ → Type 0
-  Fresh w (some p) a = Unit {0}
-  Fresh w none a = w .used a ≡ 0
 
   -- "the sender lines up a valid hello or none, then its messages in any frames that give its records"
   unfoldable pub Proper : World → Option Connection → Event → Type 0
