@@ -1,2 +1,5 @@
 pub mod Reader
 pub mod Refusals
+pub mod Members
+pub mod Files
+pub mod Steps
