@@ -1,0 +1,37 @@
+-- After any list of calls what the session carries is its file's.
+use Prim.Native.Nat.{ℕ}
+use mathlib.Core.Path.{_≡_, refl, ap, _∙_}
+use mathlib.Core.List.{List, [], _∷_}
+use lib.ListN.{take}
+use Rattle.message.specs.Message.{Bytes}
+use Rattle.record.specs.File.{recordsOf}
+use Rattle.record.proofs.Reading.{records-of-file}
+use Rattle.session.specs.declared.State.{State}
+use Rattle.session.specs.declared.State.the-variants.{Logging}
+use Rattle.agreement.specs.Calls.{Call, Host, after, afterAll, begin}
+use Rattle.agreement.specs.Agreement.{AreBytes, Agrees, InState, Stands, WholeFile, Agreement}
+use Rattle.agreement.proofs.Files.{ranged}
+use Rattle.agreement.proofs.Steps.{call-stands}
+use Rattle.agreement.proofs.Points.{tick-point, exits}
+
+pub calls-stand : (h : Host) (cs : List Call) → Stands h → Stands (afterAll h cs)
+unfolding afterAll
+calls-stand h [] i = i
+calls-stand h (c ∷ cs) i = calls-stand (after h c) cs (call-stands h c i)
+
+-- where the session is in logging, its host stands over the whole file
+pub whole-file : (h : Host) → h .session .state ≡ Logging → Agrees h → WholeFile h
+whole-file h logs a = record {
+  agrees = a;
+  reads-as = ap recordsOf (a .used-bytes) ∙ records-of-file (a .records) (ranged (a .records) (a .are-in-range));
+  tick-point = tick-point h logs a;
+  exits = λ s e. exits h logs a e s;
+}
+
+in-logging : (h : Host) (st : State) → st ≡ Logging → InState st h → Agrees h
+in-logging h st e i = rw e at i
+
+pub agreement : Agreement
+agreement area used bytes cs logs =
+    let h : Host = afterAll (begin area used) cs in
+    whole-file h logs (in-logging h (h .session .state) logs (calls-stand (begin area used) cs (record { are-bytes = bytes; no-point = refl })))
