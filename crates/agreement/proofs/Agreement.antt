@@ -14,13 +14,13 @@ use Rattle.agreement.proofs.Files.{ranged}
 use Rattle.agreement.proofs.Steps.{call-stands}
 use Rattle.agreement.proofs.Points.{tick-point, exits}
 
-pub calls-stand : (h : Host) (cs : List Call) → Stands h → Stands (afterAll h cs)
+calls-stand : (h : Host) (cs : List Call) → Stands h → Stands (afterAll h cs)
 unfolding afterAll
 calls-stand h [] i = i
 calls-stand h (c ∷ cs) i = calls-stand (after h c) cs (call-stands h c i)
 
 -- where the session is in logging, its host stands over the whole file
-pub whole-file : (h : Host) → h .session .state ≡ Logging → Agrees h → WholeFile h
+whole-file : (h : Host) → h .session .state ≡ Logging → Agrees h → WholeFile h
 whole-file h logs a = record {
   agrees = a;
   reads-as = ap recordsOf (a .used-bytes) ∙ records-of-file (a .records) (ranged (a .records) (a .are-in-range));
@@ -31,7 +31,14 @@ whole-file h logs a = record {
 in-logging : (h : Host) (st : State) → st ≡ Logging → InState st h → Agrees h
 in-logging h st e i = rw e at i
 
+begin-stands : (area : Bytes) (used : ℕ) → AreBytes (take used area) → Stands (begin area used)
+begin-stands area used bytes = record { are-bytes = bytes; no-point = refl }
+
 pub agreement : Agreement
-agreement area used bytes cs logs =
-    let h : Host = afterAll (begin area used) cs in
-    whole-file h logs (in-logging h (h .session .state) logs (calls-stand (begin area used) cs (record { are-bytes = bytes; no-point = refl })))
+agreement = record {
+  begins = begin-stands;
+  keeps = call-stands;
+  holds = λ area used bytes cs logs.
+      let h : Host = afterAll (begin area used) cs in
+      whole-file h logs (in-logging h (h .session .state) logs (calls-stand (begin area used) cs (begin-stands area used bytes)));
+}

@@ -1,5 +1,5 @@
 pub mod Reader
-pub mod Refusals
+pub mod Answers
 pub mod Members
 pub mod Files
 pub mod Steps

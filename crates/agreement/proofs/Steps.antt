@@ -17,6 +17,7 @@ use Rattle.range.specs.Range.{acceptFits, reportFits, exitFits, restartFits, io
 use Rattle.wire.specs.Read.{Reading, value, refused, clientMessage}
 use Rattle.record.specs.Record.{Record, recordBytes}
 use Rattle.record.specs.File.{limit, Records, all, none, recordsOf, total, FileKind, invalid, unfinished, finished, recordsKind, meets}
+use Rattle.record.proofs.Stores.{take-before-splice}
 use Rattle.session.specs.State.{Turn, to, notNow, opening, recording, greeting, ending, alerting, turn}
 use Rattle.session.specs.Step.{Outcome, moment, refuse, taken, lengthsFit, roomFor, atMark, timed, entriesFirst, acceptStored, onAccept, onReject, exitStored, onExit, resumed, byKind, ofRecords, onRestart, act, inTurn, onReading, step}
 use Rattle.session.specs.declared.State.{State}
@@ -24,7 +25,7 @@ use Rattle.session.specs.declared.State.the-variants.{New, Greeted, Logging, Ev
 use Rattle.session.specs.declared.Session.{Session}
 use Rattle.delivery.specs.Recording.{TimedRecord, io, window, suspend, acceptRecord, recordOf, inRange, ValidTimed}
 use Rattle.delivery.proofs.Values.{timed-ranged, may-follow}
-use Rattle.agreement.specs.Calls.{Call, message, tick, Host, untilPositive, afterTaken, afterMessage, answered, left, after, afterAll, begin}
+use Rattle.agreement.specs.Calls.{Call, message, tick, behind, Host, untilPositive, afterTaken, afterMessage, left, over, writtenBehind, after}
 use Rattle.agreement.specs.Agreement.{AreBytes, Agrees, Unopened, InState, Stands}
 use Rattle.agreement.proofs.Members.{Known, ReadKnown, message-known}
 use Rattle.agreement.proofs.Files.{accept-agrees, stored-agrees, restart-agrees}
@@ -253,9 +254,41 @@ module _ (h : Host) where
       (λ _. reading-stands (bytesOf (lastItem 1 13 (items s))) (clientMessage s) (message-known s) i)
       (λ _. tt)
 
--- ---- any calls
+-- ---- a host's own bytes, behind the used ones
+
+module _ (h : Host) (area : Bytes) (same : take (h .used) area ≡ take (h .used) (h .area)) where
+  unopened-over : Unopened h → Unopened (over h area)
+  unopened-over u = record { are-bytes = rw same (u .are-bytes); no-point = u .no-point }
+
+  over-stands : (st : State) → InState st h → InState st (over h area)
+  over-stands New u = unopened-over u
+  over-stands Greeted u = unopened-over u
+  over-stands Logging a = record {
+    records = a .records;
+    are-in-range = a .are-in-range;
+    is-unfinished = a .is-unfinished;
+    used-bytes = same ∙ a .used-bytes;
+    used-length = a .used-length;
+    carries-used = a .carries-used;
+    carries-total = a .carries-total;
+    carries-low = a .carries-low;
+    carries-point = a .carries-point;
+    at-point = a .at-point;
+  }
+  over-stands EventsOnly u = tt
+  over-stands Closed u = tt
+
+used-stay : (h : Host) (bs : Bytes) → take (h .used) (writtenBehind h bs) ≡ take (h .used) (h .area)
+unfolding writtenBehind
+used-stay h bs =
+    picked (λ (area : Bytes). take (h .used) area ≡ take (h .used) (h .area)) (leb (h .used + length bs) (length (h .area))) _ _
+    (λ e. let l = leb-true (h .used + length bs) (length (h .area)) e in take-before-splice (h .area) (h .used) bs (omega arith))
+    (λ _. refl)
+
+-- ---- any call
 
 pub call-stands : (h : Host) (c : Call) → Stands h → Stands (after h c)
 unfolding after
 call-stands h (message s) i = message-stands h s i
 call-stands h tick i = i
+call-stands h (behind bs) i = over-stands h (writtenBehind h bs) (used-stay h bs) (h .session .state) i

@@ -21,7 +21,7 @@ use Rattle.session.specs.declared.Mark.{Mark}
 use Rattle.session.specs.declared.Mark.the-variants as mark
 use Rattle.session.specs.declared.Point.the-variants as point
 use Rattle.delivery.specs.Recording.{All, exitRecord}
-use Rattle.agreement.specs.Calls.{Call, Host, answered, afterAll, begin}
+use Rattle.agreement.specs.Calls.{Call, Host, answered, after, afterAll, begin}
 
 abbrev pub AreBytes : Bytes → Type 0
 AreBytes s = (i : ℕ) → getD s i 0 < 256
@@ -102,7 +102,11 @@ pub record WholeFile (h : Host) : Type 0 where
   pub tick-point : TickPoint h (agrees .records)
   pub exits : (s : Bytes) (e : Exit) → clientMessage s ≡ value (exitMsg e) → answered h s .refusal ≡ 0 → Exited (agrees .records) e (answered h s)
 
--- after any list of calls of a new session, over any area and used length
-abbrev pub Agreement : Type 0
-Agreement = (area : Bytes) (used : ℕ) → AreBytes (take used area) → (cs : List Call)
-    → afterAll (begin area used) cs .session .state ≡ Logging → WholeFile (afterAll (begin area used) cs)
+pub record Agreement : Type 0 where
+  -- a new session, over any area and used length
+  pub begins : (area : Bytes) (used : ℕ) → AreBytes (take used area) → Stands (begin area used)
+  -- an accept and a restart that are taken give it, every other call keeps it
+  pub keeps : (h : Host) (c : Call) → Stands h → Stands (after h c)
+  -- so after any list of calls
+  pub holds : (area : Bytes) (used : ℕ) → AreBytes (take used area) → (cs : List Call)
+      → afterAll (begin area used) cs .session .state ≡ Logging → WholeFile (afterAll (begin area used) cs)

@@ -1,11 +1,12 @@
 -- A host's calls of one session, by any sender: messages and ticks, in any order. Document 01: the host "hands on the used length last
--- answered", and "statements about the whole file need a host that hasn't changed the used bytes since": each call gets the area and
--- the used length that the one before left.
-use Prim.Native.Nat.{ℕ}
+-- answered", and "statements about the whole file need a host that hasn't changed the used bytes since": each call gets the used length
+-- and the used bytes that the one before left; behind them the host may write what it likes.
+use Prim.Native.Nat.{ℕ, _+_}
 use mathlib.Core.List.{List, [], _∷_}
 use mathlib.Core.Option.{Option, none, some}
-use lib.Dec.{eqb}
-use Rattle.laws.specs.Base.{pick}
+use lib.ListN.{length}
+use lib.Dec.{leb, eqb}
+use Rattle.laws.specs.Base.{pick, splice}
 use Rattle.message.specs.Message.{Bytes, Client, acceptMsg, rejectMsg, exitMsg, restartMsg, alertMsg, ioBuf, winsizeEvent, suspendEvent, helloMsg}
 use Rattle.wire.specs.Read.{Reading, value, refused, clientMessage}
 use Rattle.session.specs.Step.{Outcome, moment, step, opened}
@@ -14,6 +15,8 @@ use Rattle.session.specs.declared.Session.{Session}
 pub data Call : Type 0 where
   message : Bytes → Call
   tick : Call
+  -- no call of the session: the host's own bytes, right behind the used ones
+  behind : Bytes → Call
 
 -- what a host has between two calls: the session, the area, the used length; and the restart point that holds, by the calls alone
 pub record Host : Type 0 where
@@ -52,10 +55,18 @@ answered h s = step (h .session) (h .area) (h .used) s
 abbrev pub left : Outcome → Option ℕ → Host
 left o T = record { session = o .session; area = o .area; used = o .used; restartPoint = T }
 
+abbrev pub over : Host → Bytes → Host
+over h area = record { session = h .session; area = area; used = h .used; restartPoint = h .restartPoint }
+
+-- the area with a host's own bytes, where they fit
+unfoldable pub writtenBehind : Host → Bytes → Bytes
+writtenBehind h bs = pick (leb (h .used + length bs) (length (h .area))) (splice (h .area) (h .used) bs) (h .area)
+
 -- "A tick changes nothing."
 unfoldable pub after : Host → Call → Host
 after h (message s) = left (answered h s) (afterMessage (clientMessage s) (answered h s .refusal) (h .restartPoint))
 after h tick = h
+after h (behind bs) = over h (writtenBehind h bs)
 
 unfoldable pub afterAll : Host → List Call → Host
 afterAll h [] = h
