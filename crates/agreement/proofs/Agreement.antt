@@ -12,6 +12,7 @@ use Rattle.agreement.specs.Calls.{Call, Host, after, afterAll, begin}
 use Rattle.agreement.specs.Agreement.{AreBytes, Agrees, InState, Stands, WholeFile, Agreement}
 use Rattle.agreement.proofs.Files.{ranged}
 use Rattle.agreement.proofs.Steps.{call-stands}
+use Rattle.agreement.proofs.Adds.{adds}
 use Rattle.agreement.proofs.Points.{tick-point, exits}
 
 calls-stand : (h : Host) (cs : List Call) → Stands h → Stands (afterAll h cs)
@@ -24,6 +25,7 @@ whole-file : (h : Host) → h .session .state ≡ Logging → Agrees h → Whole
 whole-file h logs a = record {
   agrees = a;
   reads-as = ap recordsOf (a .used-bytes) ∙ records-of-file (a .records) (ranged (a .records) (a .are-in-range));
+  adds = adds h logs a;
   tick-point = tick-point h logs a;
   exits = λ s e. exits h logs a e s;
 }

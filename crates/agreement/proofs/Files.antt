@@ -1,9 +1,9 @@
 -- What a session that stores leaves agrees with the file: after an accept, after a timed record, after a restart.
-use Prim.Native.Nat.{ℕ, _+_, _≤_, _<_}
+use Prim.Native.Nat.{ℕ, _+_, _≤_}
 use native.Mathlib.Omega.{arith}
 use mathlib.Core.Path.{_≡_, refl, sym, ap, _∙_}
 use mathlib.Core.Bool.{Bool, true, false}
-use mathlib.Core.List.{List, [], _∷_, _++_}
+use mathlib.Core.List.{List, [], _∷_}
 use mathlib.Core.Option.{Option, none, some}
 use lib.ListN.{length, take, length-append}
 use lib.Seq.{length-take-le}
@@ -18,11 +18,10 @@ use Rattle.record.specs.File.{recordsOf, fileBytes, limit, timeOf, total, lowFr
 use Rattle.record.specs.Store.{inRange}
 use Rattle.record.proofs.Times.{accept-cons}
 use Rattle.record.proofs.Reading.{InRange, Ranged, no-records, one-more, file-of-records}
-use Rattle.record.proofs.Appends.{snoc, file-append, file-snoc, file-stored, kind-timed, total-timed, low-timed}
-use Rattle.record.proofs.Restarts.{keep-begins, keep-ranged, keep-kind, keep-total, keep-area}
+use Rattle.record.proofs.Appends.{snoc, file-snoc, file-stored, kind-timed, total-timed, low-timed}
+use Rattle.record.proofs.Restarts.{keep-ranged, keep-kind, keep-total, keep-area}
 use Rattle.session.specs.Step.{grown}
 use Rattle.session.specs.declared.State.the-variants.{Logging}
-use Rattle.session.specs.declared.Session.{Session}
 use Rattle.session.specs.declared.Mark.{Mark}
 use Rattle.session.specs.declared.Mark.the-variants as mark
 use Rattle.delivery.specs.Recording.{All, acceptRecord}
@@ -92,6 +91,13 @@ accept-agrees area d used T u e small =
 
 -- ---- after a timed record
 
+-- the file with a record more
+pub file-more : (h : Host) (a : Agrees h) (r : Record) → h .used ≤ length (h .area)
+    → take (h .used + length (recordBytes r)) (splice (h .area) (h .used) (recordBytes r)) ≡ fileBytes (snoc (a .records) r)
+file-more h a r within =
+    ap (λ (k : ℕ). take (k + length (recordBytes r)) (splice (h .area) k (recordBytes r))) (a .used-length)
+    ∙ file-stored (h .area) (a .records) r (ap (λ (k : ℕ). take k (h .area)) (sym (a .used-length)) ∙ a .used-bytes) (omega (arith, a .used-length))
+
 module _ (h : Host) (a : Agrees h) (r : Record) (in-it : InRange r) (follows : mayFollow (total (a .records)) r ≡ true) where
   at-point-later : (b : Bool) → eqb (r .delay) 0 ≡ b → (t : ℕ) → pick b (h .restartPoint) none ≡ some t → total (snoc (a .records) r) ≡ t
   at-point-later true e t p = omega (arith, total-timed (a .records) r follows, a .at-point t p, eqb-true (r .delay) 0 e)
@@ -112,8 +118,7 @@ module _ (h : Host) (a : Agrees h) (r : Record) (in-it : InRange r) (follows : m
         records = snoc rs r;
         are-in-range = all-append Fits rs (r ∷ []) (a .are-in-range) (fits r in-it, tt);
         is-unfinished = kind-timed rs r (a .is-unfinished) follows;
-        used-bytes = ap (λ (k : ℕ). take (k + n) (splice (h .area) k (recordBytes r))) (a .used-length)
-            ∙ file-stored (h .area) rs r (ap (λ (k : ℕ). take k (h .area)) (sym (a .used-length)) ∙ a .used-bytes) (omega (arith, a .used-length));
+        used-bytes = file-more h a r within;
         used-length = ap (λ (k : ℕ). k + n) (a .used-length) ∙ sym (ap length (file-snoc rs r) ∙ length-append (fileBytes rs) (recordBytes r));
         carries-used = refl;
         carries-total = ap (λ (k : ℕ). k + r .delay) (a .carries-total) ∙ sym (total-timed rs r follows);

@@ -3,5 +3,6 @@ pub mod Answers
 pub mod Members
 pub mod Files
 pub mod Steps
+pub mod Adds
 pub mod Points
 pub mod Agreement

@@ -1,36 +1,32 @@
 -- The commit points of a session that agrees with its file: a tick's and an exit's.
-use Prim.Native.Nat.{ℕ, _+_, _≤_, _<_}
+use Prim.Native.Nat.{ℕ, _<_}
 use native.Mathlib.Omega.{arith}
-use mathlib.Core.Path.{_≡_, refl, sym, ap, _∙_}
-use mathlib.Core.Bool.{true}
-use mathlib.Core.List.{List, [], _∷_, _++_}
+use mathlib.Core.Path.{_≡_, ap, _∙_}
+use mathlib.Core.List.{List}
 use mathlib.Core.Option.{Option, none, some}
-use lib.ListN.{length, take}
-use lib.Dec.{leb, eqb}
+use lib.ListN.{length}
+use lib.Dec.{leb}
 use borrow.Author.Tests.{eq-eqb, ne-eqb}
-use Rattle.laws.specs.Base.{splice}
 use Rattle.laws.proofs.Order.{picked}
 use Rattle.encoding.specs.Items.{items, lastItem, bytesOf}
 use Rattle.message.specs.Message.{Bytes, Exit, exitMsg}
 use Rattle.range.specs.Range.{exitFits}
 use Rattle.wire.specs.Read.{value, clientMessage}
-use Rattle.record.specs.Record.{Record, recordBytes}
-use Rattle.record.specs.File.{fileBytes, timeOf, total, lowTotal}
+use Rattle.record.specs.Record.{Record}
+use Rattle.record.specs.File.{total, lowTotal}
 use Rattle.record.proofs.Times.{exit-time}
-use Rattle.record.proofs.Appends.{file-stored, kind-exit, total-snoc}
+use Rattle.record.proofs.Appends.{kind-exit, total-snoc}
 use Rattle.record.proofs.Beginnings.{low-found, low-above}
 use Rattle.session.specs.State.{ending, turn}
 use Rattle.session.specs.Step.{Outcome, lengthsFit, roomFor, exitStored, onExit, act, inTurn, onReading, step, loggingPoint, pointIn, tick}
 use Rattle.session.specs.declared.State.{State}
 use Rattle.session.specs.declared.State.the-variants.{Logging}
-use Rattle.session.specs.declared.Session.{Session}
 use Rattle.session.specs.declared.Mark.{Mark}
 use Rattle.session.specs.declared.Point.the-variants as point
 use Rattle.delivery.specs.Recording.{exitRecord}
 use Rattle.delivery.proofs.Values.{may-end}
 use Rattle.agreement.specs.Calls.{Host, answered}
-use Rattle.agreement.specs.Agreement.{markOf, Agrees, GreatestBelow, TickPoint, Exited}
-use Rattle.agreement.proofs.Steps.{lengths, small}
+use Rattle.agreement.specs.Agreement.{markOf, Agrees, added, GreatestBelow, TickPoint, Exited}
 
 -- ---- the greatest lower total
 
@@ -76,19 +72,16 @@ module _ (h : Host) (logs : h .session .state ≡ Logging) (a : Agrees h) where
     Taken o = o .refusal ≡ 0 → Exited rs e o
 
     exit-stored : Taken (exitStored (h .session) (h .area) (h .used) e)
-    unfolding exitStored exitRecord
+    unfolding exitStored exitRecord added
     exit-stored =
         let r : Record = exitRecord e in
         picked Taken (lengthsFit (h .session) (h .area) (h .used) (h .session .used)) _ _
-        (λ l.
+        (λ _.
         picked Taken (exitFits e) _ _
         (λ f.
         picked Taken (roomFor (h .session) (h .area) (h .used) r) _ _
         (λ _ _. record {
           answers = ap point.At (a .carries-total);
-          used-bytes = ap (λ (k : ℕ). take (k + length (recordBytes r)) (splice (h .area) k (recordBytes r))) (a .used-length)
-              ∙ file-stored (h .area) rs r (ap (λ (k : ℕ). take k (h .area)) (sym (a .used-length)) ∙ a .used-bytes)
-              (omega (arith, a .used-length, lengths (h .session) (h .area) (h .used) (h .session .used) l .0));
           is-finished = kind-exit rs r (a .is-unfinished) (may-end e f);
           same-total = omega (arith, total-snoc rs r, exit-time r (may-end e f));
         })

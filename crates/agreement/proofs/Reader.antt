@@ -4,7 +4,7 @@ use native.Mathlib.Omega.{arith}
 use mathlib.Core.List.{List}
 use lib.ListN.{length}
 use lib.Dec.{leb, ltb, eqb}
-use Rattle.laws.specs.Base.{pick, part}
+use Rattle.laws.specs.Base.{part}
 use Rattle.laws.proofs.Order.{picked}
 use Rattle.field.specs.Schema.{ClientMessage, kindOf, takes}
 use Rattle.field.specs.Varint.{varintAt}
@@ -21,7 +21,7 @@ use Rattle.encoding.specs.declared.check.Step.{Step}
 use Rattle.encoding.specs.declared.check.Step.the-variants as step
 use Rattle.encoding.specs.declared.check.Checked.{Checked}
 use Rattle.encoding.specs.declared.check.Checked.the-variants as checked
-use Rattle.message.specs.Message.{Bytes, Entry, Client, clientMember}
+use Rattle.message.specs.Message.{Bytes, Entry}
 use Rattle.wire.specs.Read.{Reading, value, refused, after, member, clientMessage}
 use Rattle.required.specs.Required.{typesFit, missing, entriesRefusal}
 

@@ -1,12 +1,12 @@
 -- Every message leaves the host as `Stands` says, where it stood so before.
 use Prim.Native.Nat.{ℕ, _+_, _-_, _≤_}
 use native.Mathlib.Omega.{arith}
-use mathlib.Core.Path.{_≡_, refl, sym, ap, _∙_}
+use mathlib.Core.Path.{_≡_, refl, _∙_}
 use mathlib.Core.Bool.{Bool, true, false}
 use mathlib.Core.List.{List}
-use mathlib.Core.Option as option
 use mathlib.Core.Option.{Option}
 use lib.ListN.{length, take}
+use lib.Seq.{take-at, length-take-le}
 use lib.Dec.{leb, eqb}
 use borrow.Author.Tests.{leb-true, le-leb, eqb-true}
 use Rattle.laws.specs.Base.{pick, both}
@@ -17,16 +17,15 @@ use Rattle.range.specs.Range.{acceptFits, reportFits, exitFits, restartFits, io
 use Rattle.wire.specs.Read.{Reading, value, refused, clientMessage}
 use Rattle.record.specs.Record.{Record, recordBytes}
 use Rattle.record.specs.File.{limit, Records, all, none, recordsOf, total, FileKind, invalid, unfinished, finished, recordsKind, meets}
-use Rattle.record.proofs.Stores.{take-before-splice}
-use Rattle.session.specs.State.{Turn, to, notNow, opening, recording, greeting, ending, alerting, turn}
-use Rattle.session.specs.Step.{Outcome, moment, refuse, taken, lengthsFit, roomFor, atMark, timed, entriesFirst, acceptStored, onAccept, onReject, exitStored, onExit, resumed, byKind, ofRecords, onRestart, act, inTurn, onReading, step}
+use Rattle.session.specs.State.{opening, recording, greeting, ending, alerting, turn}
+use Rattle.session.specs.Step.{Outcome, moment, taken, lengthsFit, roomFor, atMark, timed, entriesFirst, acceptStored, onAccept, onReject, exitStored, onExit, resumed, byKind, ofRecords, onRestart, act, inTurn, onReading, step}
 use Rattle.session.specs.declared.State.{State}
 use Rattle.session.specs.declared.State.the-variants.{New, Greeted, Logging, EventsOnly, Closed}
 use Rattle.session.specs.declared.Session.{Session}
 use Rattle.delivery.specs.Recording.{TimedRecord, io, window, suspend, acceptRecord, recordOf, inRange, ValidTimed}
 use Rattle.delivery.proofs.Values.{timed-ranged, may-follow}
-use Rattle.agreement.specs.Calls.{Call, message, tick, behind, Host, untilPositive, afterTaken, afterMessage, left, over, writtenBehind, after}
-use Rattle.agreement.specs.Agreement.{AreBytes, Agrees, Unopened, InState, Stands}
+use Rattle.agreement.specs.Calls.{Call, message, tick, behind, Host, untilPositive, afterTaken, afterMessage, left, over, withBehind, after}
+use Rattle.agreement.specs.Agreement.{Agrees, Unopened, InState, Stands}
 use Rattle.agreement.proofs.Members.{Known, ReadKnown, message-known}
 use Rattle.agreement.proofs.Files.{accept-agrees, stored-agrees, restart-agrees}
 
@@ -254,7 +253,7 @@ module _ (h : Host) where
       (λ _. reading-stands (bytesOf (lastItem 1 13 (items s))) (clientMessage s) (message-known s) i)
       (λ _. tt)
 
--- ---- a host's own bytes, behind the used ones
+-- ---- other bytes behind the used ones
 
 module _ (h : Host) (area : Bytes) (same : take (h .used) area ≡ take (h .used) (h .area)) where
   unopened-over : Unopened h → Unopened (over h area)
@@ -278,11 +277,11 @@ module _ (h : Host) (area : Bytes) (same : take (h .used) area ≡ take (h .used
   over-stands EventsOnly u = tt
   over-stands Closed u = tt
 
-used-stay : (h : Host) (bs : Bytes) → take (h .used) (writtenBehind h bs) ≡ take (h .used) (h .area)
-unfolding writtenBehind
+used-stay : (h : Host) (bs : Bytes) → take (h .used) (withBehind h bs) ≡ take (h .used) (h .area)
+unfolding withBehind
 used-stay h bs =
-    picked (λ (area : Bytes). take (h .used) area ≡ take (h .used) (h .area)) (leb (h .used + length bs) (length (h .area))) _ _
-    (λ e. let l = leb-true (h .used + length bs) (length (h .area)) e in take-before-splice (h .area) (h .used) bs (omega arith))
+    picked (λ (area : Bytes). take (h .used) area ≡ take (h .used) (h .area)) (leb (h .used) (length (h .area))) _ _
+    (λ e. take-at (take (h .used) (h .area)) bs (h .used) (length-take-le (h .used) (h .area) (leb-true (h .used) (length (h .area)) e)))
     (λ _. refl)
 
 -- ---- any call
@@ -291,4 +290,4 @@ pub call-stands : (h : Host) (c : Call) → Stands h → Stands (after h c)
 unfolding after
 call-stands h (message s) i = message-stands h s i
 call-stands h tick i = i
-call-stands h (behind bs) i = over-stands h (writtenBehind h bs) (used-stay h bs) (h .session .state) i
+call-stands h (behind bs) i = over-stands h (withBehind h bs) (used-stay h bs) (h .session .state) i

@@ -7,7 +7,7 @@ use mathlib.Core.Bool.{true}
 use mathlib.Core.List.{List, [], _∷_, _++_}
 use mathlib.Core.Option.{Option, none, some}
 use lib.ListN.{length, take, getD}
-use Rattle.message.specs.Message.{Bytes, Exit, exitMsg}
+use Rattle.message.specs.Message.{Bytes, Exit, Client, acceptMsg, rejectMsg, exitMsg, restartMsg, alertMsg, ioBuf, winsizeEvent, suspendEvent, helloMsg}
 use Rattle.wire.specs.Read.{value, clientMessage}
 use Rattle.record.specs.Record.{Record}
 use Rattle.record.specs.File as file
@@ -20,7 +20,7 @@ use Rattle.session.specs.declared.State.the-variants.{New, Greeted, Logging, Ev
 use Rattle.session.specs.declared.Mark.{Mark}
 use Rattle.session.specs.declared.Mark.the-variants as mark
 use Rattle.session.specs.declared.Point.the-variants as point
-use Rattle.delivery.specs.Recording.{All, exitRecord}
+use Rattle.delivery.specs.Recording.{io, window, suspend, recordOf, exitRecord, All}
 use Rattle.agreement.specs.Calls.{Call, Host, answered, after, afterAll, begin}
 
 abbrev pub AreBytes : Bytes → Type 0
@@ -66,6 +66,20 @@ InState Closed h = Unit {0}
 abbrev pub Stands : Host → Type 0
 Stands h = InState (h .session .state) h
 
+-- ---- records. The request: "Every message accepted for storing adds exactly the record that document 01 gives."
+
+-- what a member that is taken in logging adds
+unfoldable pub added : Client → List Record
+added (ioBuf k i) = recordOf (io k i) ∷ []
+added (winsizeEvent w) = recordOf (window w) ∷ []
+added (suspendEvent s) = recordOf (suspend s) ∷ []
+added (exitMsg e) = exitRecord e ∷ []
+added (alertMsg r) = []
+added (acceptMsg a) = []
+added (rejectMsg r) = []
+added (restartMsg r) = []
+added (helloMsg d) = []
+
 -- ---- commit points
 
 -- "the greatest total of a beginning of the file strictly below the present total, the empty beginning counting as 0"
@@ -85,12 +99,11 @@ pub record TickPoint (h : Host) (rs : List Record) : Type 0 where
   pub at-zero : h .restartPoint ≡ none → total rs ≡ 0 → session.tick (h .session) ≡ point.Absent
   pub below : h .restartPoint ≡ none → 0 < total rs → (t : ℕ) × (session.tick (h .session) ≡ point.At t) × GreatestBelow t rs
 
--- "an exit in logging answers with the present total, 0 for no timed records": it is also the total of the file with the exit
+-- "an exit in logging answers with the present total, 0 for no timed records": it is also the total of the finished file
 pub record Exited (rs : List Record) (e : Exit) (o : Outcome) : Type 0 where
   pub answers : o .point ≡ point.At (total rs)
-  pub used-bytes : take (o .used) (o .area) ≡ fileBytes (rs ++ (exitRecord e ∷ []))
-  pub is-finished : recordsKind (rs ++ (exitRecord e ∷ [])) ≡ finished
-  pub same-total : total (rs ++ (exitRecord e ∷ [])) ≡ total rs
+  pub is-finished : recordsKind (rs ++ added (exitMsg e)) ≡ finished
+  pub same-total : total (rs ++ added (exitMsg e)) ≡ total rs
 
 -- ---- the statement
 
@@ -99,6 +112,9 @@ pub record WholeFile (h : Host) : Type 0 where
   pub agrees : Agrees h
   -- the used bytes read as these records and no others
   pub reads-as : recordsOf (take (h .used) (h .area)) ≡ file.all (agrees .records)
+  -- what the next message adds, if it is taken
+  pub adds : (s : Bytes) (c : Client) → clientMessage s ≡ value c → answered h s .refusal ≡ 0
+      → take (answered h s .used) (answered h s .area) ≡ fileBytes (agrees .records ++ added c)
   pub tick-point : TickPoint h (agrees .records)
   pub exits : (s : Bytes) (e : Exit) → clientMessage s ≡ value (exitMsg e) → answered h s .refusal ≡ 0 → Exited (agrees .records) e (answered h s)
 

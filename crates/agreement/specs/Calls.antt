@@ -1,12 +1,12 @@
 -- A host's calls of one session, by any sender: messages and ticks, in any order. Document 01: the host "hands on the used length last
 -- answered", and "statements about the whole file need a host that hasn't changed the used bytes since": each call gets the used length
--- and the used bytes that the one before left; behind them the host may write what it likes.
-use Prim.Native.Nat.{ℕ, _+_}
-use mathlib.Core.List.{List, [], _∷_}
+-- and the used bytes that the one before left; behind them there may be any others, more or fewer.
+use Prim.Native.Nat.{ℕ}
+use mathlib.Core.List.{List, [], _∷_, _++_}
 use mathlib.Core.Option.{Option, none, some}
-use lib.ListN.{length}
+use lib.ListN.{length, take}
 use lib.Dec.{leb, eqb}
-use Rattle.laws.specs.Base.{pick, splice}
+use Rattle.laws.specs.Base.{pick}
 use Rattle.message.specs.Message.{Bytes, Client, acceptMsg, rejectMsg, exitMsg, restartMsg, alertMsg, ioBuf, winsizeEvent, suspendEvent, helloMsg}
 use Rattle.wire.specs.Read.{Reading, value, refused, clientMessage}
 use Rattle.session.specs.Step.{Outcome, moment, step, opened}
@@ -15,7 +15,7 @@ use Rattle.session.specs.declared.Session.{Session}
 pub data Call : Type 0 where
   message : Bytes → Call
   tick : Call
-  -- no call of the session: the host's own bytes, right behind the used ones
+  -- no call of the session: from here on the host has these bytes behind the used ones
   behind : Bytes → Call
 
 -- what a host has between two calls: the session, the area, the used length; and the restart point that holds, by the calls alone
@@ -58,15 +58,15 @@ left o T = record { session = o .session; area = o .area; used = o .used; restar
 abbrev pub over : Host → Bytes → Host
 over h area = record { session = h .session; area = area; used = h .used; restartPoint = h .restartPoint }
 
--- the area with a host's own bytes, where they fit
-unfoldable pub writtenBehind : Host → Bytes → Bytes
-writtenBehind h bs = pick (leb (h .used + length bs) (length (h .area))) (splice (h .area) (h .used) bs) (h .area)
+-- the used bytes, and others behind them; an area that is shorter than its used length stays as it is
+unfoldable pub withBehind : Host → Bytes → Bytes
+withBehind h bs = pick (leb (h .used) (length (h .area))) (take (h .used) (h .area) ++ bs) (h .area)
 
 -- "A tick changes nothing."
 unfoldable pub after : Host → Call → Host
 after h (message s) = left (answered h s) (afterMessage (clientMessage s) (answered h s .refusal) (h .restartPoint))
 after h tick = h
-after h (behind bs) = over h (writtenBehind h bs)
+after h (behind bs) = over h (withBehind h bs)
 
 unfoldable pub afterAll : Host → List Call → Host
 afterAll h [] = h
