@@ -29,7 +29,7 @@ use Rattle.agreement.specs.Refusals.{Refused, Refusals}
 use Rattle.agreement.specs.NoPoint.{ExitInLogging, NoPoint}
 use Rattle.agreement.proofs.Reader.{ReadNumbered, message-numbered, entries-most}
 
-never-at : (t : ℕ) → point.Absent ≡ point.At t → ⊥
+pub never-at : (t : ℕ) → point.Absent ≡ point.At t → ⊥
 never-at t e = let z : _≡_ {A = ℕ} 0 1 = cc in omega arith
 
 -- Exits: this message is an exit in logging

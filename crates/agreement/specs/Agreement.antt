@@ -6,7 +6,7 @@ use mathlib.Core.Path.{_≡_}
 use mathlib.Core.Bool.{true}
 use mathlib.Core.List.{List, [], _∷_, _++_}
 use mathlib.Core.Option.{Option, none, some}
-use lib.ListN.{length, take, getD}
+use lib.ListN.{length, take, getD, replicate}
 use Rattle.message.specs.Message.{Bytes, Exit, Client, acceptMsg, rejectMsg, exitMsg, restartMsg, alertMsg, ioBuf, winsizeEvent, suspendEvent, helloMsg}
 use Rattle.wire.specs.Read.{value, clientMessage}
 use Rattle.record.specs.Record.{Record}
@@ -15,13 +15,14 @@ use Rattle.record.specs.File.{recordsOf, fileBytes, total, lowTotal, unfinished
 use Rattle.record.specs.Store.{inRange}
 use Rattle.session.specs.Step as session
 use Rattle.session.specs.Step.{Outcome}
+use Rattle.session.specs.Examples.{accept, ttyout}
 use Rattle.session.specs.declared.State.{State}
 use Rattle.session.specs.declared.State.the-variants.{New, Greeted, Logging, EventsOnly, Closed}
 use Rattle.session.specs.declared.Mark.{Mark}
 use Rattle.session.specs.declared.Mark.the-variants as mark
 use Rattle.session.specs.declared.Point.the-variants as point
 use Rattle.delivery.specs.Recording.{io, window, suspend, recordOf, exitRecord, All}
-use Rattle.agreement.specs.Calls.{Call, Host, answered, after, afterAll, begin}
+use Rattle.agreement.specs.Calls.{Call, message, Host, answered, after, afterAll, begin}
 
 abbrev pub AreBytes : Bytes → Type 0
 AreBytes s = (i : ℕ) → getD s i 0 < 256
@@ -107,6 +108,10 @@ pub record Exited (rs : List Record) (e : Exit) (o : Outcome) : Type 0 where
 
 -- ---- the statement
 
+-- marked example 7: an accept, then delays of 1, 0, 0 and 2 s
+abbrev pub seven : List Call
+seven = message accept ∷ message (ttyout 1) ∷ message (ttyout 0) ∷ message (ttyout 0) ∷ message (ttyout 2) ∷ []
+
 -- of a host whose session is in logging
 pub record WholeFile (h : Host) : Type 0 where
   pub agrees : Agrees h
@@ -126,3 +131,5 @@ pub record Agreement : Type 0 where
   -- so after any list of calls
   pub holds : (area : Bytes) (used : ℕ) → AreBytes (take used area) → (cs : List Call)
       → afterAll (begin area used) cs .session .state ≡ Logging → WholeFile (afterAll (begin area used) cs)
+  -- and there are lists after which a session is in logging
+  pub reached : afterAll (begin (replicate 160 0) 0) seven .session .state ≡ Logging
