@@ -53,7 +53,7 @@ module _ (h : Host) where
   abbrev After : Client → Outcome → Type 0
   After c o = Stands (left o (afterMessage (value c) (o .refusal) (h .restartPoint)))
 
-  -- a session that is not opened yet, or that logs, in another call's place
+  -- a message that stores nothing, before an accept or a restart
   unopened : (st : State) (T : Option ℕ) → T ≡ h .restartPoint → Unopened h → Unopened (left (taken se (h .area) (h .used) st) T)
   unopened st T e u = record { are-bytes = u .are-bytes; no-point = e ∙ u .no-point }
 

@@ -48,7 +48,7 @@ pub record Agrees (h : Host) : Type 0 where
   pub carries-total : h .session .total ≡ total records
   pub carries-low : h .session .low ≡ lowTotal records
   pub carries-point : h .session .mark ≡ markOf (h .restartPoint)
-  -- "It keeps the accept and all records whose total is at most T", and one with delay zero is refused while T holds
+  -- "It keeps the accept and all records whose total is at most T": while T holds it is the file's total
   pub at-point : (t : ℕ) → h .restartPoint ≡ some t → total records ≡ t
 
 -- before an accept or a restart: nothing is asked of the used bytes but that they are bytes
@@ -98,6 +98,7 @@ pub record TickPoint (h : Host) (rs : List Record) : Type 0 where
   pub after-restart : (t : ℕ) → h .restartPoint ≡ some t → session.tick (h .session) ≡ point.At t
   -- "none if the present total is 0"
   pub at-zero : h .restartPoint ≡ none → total rs ≡ 0 → session.tick (h .session) ≡ point.Absent
+  -- "the point is the greatest total of a beginning of the file strictly below the present total"
   pub below : h .restartPoint ≡ none → 0 < total rs → (t : ℕ) × (session.tick (h .session) ≡ point.At t) × GreatestBelow t rs
 
 -- "an exit in logging answers with the present total, 0 for no timed records": it is also the total of the finished file
