@@ -1,0 +1,8 @@
+pub mod Reader
+pub mod Answers
+pub mod Members
+pub mod Files
+pub mod Steps
+pub mod Adds
+pub mod Points
+pub mod Agreement

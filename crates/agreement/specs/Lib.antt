@@ -1,0 +1,4 @@
+pub mod Refusals
+pub mod NoPoint
+pub mod Calls
+pub mod Agreement
