@@ -88,7 +88,9 @@ uint64_t sudolog_member(uint8_t message, const uint8_t *s, size_t n);
 uint64_t sudolog_number(uint64_t field, const uint8_t *s, size_t n);
 
 /* Where the last string, bytes or embedded message given for a field lies in s; 0 and 0 where it is
- * absent, which reads as empty. */
+ * absent, which reads as empty. Where a field may be given as a number and as bytes (field 1 of a
+ * NumberList, and a field that the message does not know), the last one given decides, and the other
+ * call answers as where it is absent. */
 uint64_t sudolog_offset(uint64_t field, const uint8_t *s, size_t n);
 uint64_t sudolog_length(uint64_t field, const uint8_t *s, size_t n);
 
