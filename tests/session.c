@@ -3,8 +3,8 @@
  * fails and at the end 'N passed, M failed'; exit status 1 on a failure.
  *
  * The marked examples 7 to 10 of the scope document; the 40 bytes of a session, and bytes that are none; what a
- * refusal leaves as it was; the turns of I/O bytes; which of two refusals goes first; and that a restart and a file
- * check touch no data bytes.
+ * refusal leaves as it was; the turns of I/O bytes; which of two refusals goes first; that a restart and a file check
+ * touch no data bytes; and that data of every size is stored byte for byte.
  */
 #define _DEFAULT_SOURCE
 #include "check.h"
@@ -352,6 +352,46 @@ static void test_headers_alone(void)
     free(message);
 }
 
+/* Data of n bytes in an area with room for it and no more: the record's header, then every byte, and no byte behind. */
+static void test_stored(uint8_t *area, size_t size, uint8_t *message, const uint8_t *data, size_t n)
+{
+    struct sudolog_session session = sudolog_new_session();
+    struct sudolog_answer answer;
+    struct host h = opened();
+    size_t start;
+    uint64_t written;
+    make_accept(&h, true);
+    memset(area, 0xEE, size);
+    CHECK(sudolog_take_message(&session, h.message, h.n, area, size, 0, &answer) == 0);
+    start = answer.used + 11;
+    written = sudolog_write_io(SUDOLOG_FROM_CLIENT_TTYOUT, 1, 0, data, n, 0, message, n + 64);
+    CHECK(sudolog_written_refusal(written) == 0);
+    CHECK(sudolog_take_message(&session, message, sudolog_written_size(written), area, start + n, answer.used, &answer)
+          == 0);
+    CHECK(answer.used == start + n && memcmp(area + start, data, n) == 0 && area[start + n] == 0xEE);
+}
+
+/* The copy takes other ways by the size: each size up to 300, then those around the blocks and pages. */
+static void test_sizes(void)
+{
+    enum { MOST = 70000 };
+    static const size_t edges[] = { 512, 8192, 16384, 32768, 49152, 65536 };
+    uint8_t *area = (uint8_t *)malloc(MOST + AREA), *message = (uint8_t *)malloc(MOST + 64), *data = (uint8_t *)malloc(MOST);
+    size_t i, n;
+    if (area == NULL || message == NULL || data == NULL)
+        exit(2);
+    for (i = 0; i < MOST; i++)
+        data[i] = (uint8_t)(i * 31 + i / 251);
+    for (n = 0; n <= 300; n++)
+        test_stored(area, MOST + AREA, message, data, n);
+    for (i = 0; i < sizeof edges / sizeof *edges; i++)
+        for (n = edges[i] - 17; n <= edges[i] + 17; n++)
+            test_stored(area, MOST + AREA, message, data, n);
+    free(area);
+    free(message);
+    free(data);
+}
+
 int main(void)
 {
     test_examples();
@@ -363,5 +403,6 @@ int main(void)
     test_lengths_before_ranges();
     test_restart_point_before_room();
     test_headers_alone();
+    test_sizes();
     return checked();
 }
