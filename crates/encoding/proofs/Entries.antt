@@ -23,28 +23,24 @@ use Rattle.encoding.specs.declared.check.Checked.the-variants as checked
 use Rattle.encoding.specs.declared.fields.Field.{Field}
 use Rattle.encoding.specs.declared.fields.Field.the-variants as field
 use Rattle.encoding.specs.declared.entry.Plain.the-variants as plain
-use Rattle.field.proofs.Varints.{ends}
+use Rattle.field.proofs.Varints.{one-byte}
 use Rattle.encoding.proofs.Checks.{at-end}
 use Rattle.encoding.proofs.Follow.{FieldRead, field-read, follow, none}
 use Rattle.encoding.proofs.Walk.{Leads, further, checks-on, tag-is, field-leads, field-inside, field-part, inside-on}
 
 -- ---- one field
 
--- a varint of one byte
-short : (s : List ℕ) (at t : ℕ) → at < length s → t < 128 → getD s at 0 ≡ t → varintAt s at ≡ Value t (at + 1)
-short s at t i l b = sym (ends s at 9 (omega arith) i (omega arith)) ∙ rw b
-
 -- a tag of one byte
-tagged : (s : List ℕ) (at t f w : ℕ) → at < length s → t < 128 → getD s at 0 ≡ t → tagOf (Value t (at + 1)) ≡ tag.Field f w (at + 1)
+pub tagged : (s : List ℕ) (at t f w : ℕ) → at < length s → t < 128 → getD s at 0 ≡ t → tagOf (Value t (at + 1)) ≡ tag.Field f w (at + 1)
     → tagAt s at ≡ tag.Field f w (at + 1)
-tagged s at t f w i l b is = tag-is s at (Value t (at + 1)) (short s at t i l b) ∙ is
+tagged s at t f w i l b is = tag-is s at (Value t (at + 1)) (one-byte s at t i b l) ∙ is
 
 -- ---- the key
 
 -- a length of one byte that the list has room for
 key-part : (s : List ℕ) (n : ℕ) → n < 128 → getD s 1 0 ≡ n → 2 + n < length s → partOf s 1 (varintAt s 1) ≡ payload.Part 2 (2 + n)
 unfolding partOf
-key-part s n l b h = let r : n ≤ length s - 2 = omega arith in rw (short s 1 n (omega arith) l b, le-leb _ _ r)
+key-part s n l b h = let r : n ≤ length s - 2 = omega arith in rw (one-byte s 1 n (omega arith) b l, le-leb _ _ r)
 
 pub keyed : (s : List ℕ) (n : ℕ) → getD s 0 0 ≡ 10 → n < 128 → getD s 1 0 ≡ n → 2 + n < length s → Keyed s (2 + n)
 unfolding tagOf tagFits takes kindOf schema payloadAt stepOf fieldOf

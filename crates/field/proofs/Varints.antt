@@ -46,6 +46,10 @@ module _ (s : List ℕ) (at : ℕ) where
   unfolding varintFrom
   goes-on k j e h b = rw e (simp (varintFrom, lt-ltb _ _ h, le-ltb _ _ b))
 
+-- a byte below 128 is a varint of one byte, whatever its value is known by
+pub one-byte : (s : List ℕ) (at t : ℕ) → at < length s → getD s at 0 ≡ t → t < 128 → varintAt s at ≡ Value t (at + 1)
+one-byte s at t i e l = sym (ends s at 9 (omega arith) i (omega arith)) ∙ rw e
+
 -- the values of a varint of at most 1 + k bytes are below this
 unfoldable pub lim : ℕ → ℕ
 lim zero = 2

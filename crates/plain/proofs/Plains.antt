@@ -1,7 +1,7 @@
 -- The short ways: each says what the walk over the same fields says.
 use Prim.Native.Nat.{ℕ, _+_, _*_, _/_, _%_, _≤_, _<_}
 use native.Mathlib.Omega.{arith}
-use mathlib.Core.Path.{_≡_, refl, sym, subst, ap, _∙_}
+use mathlib.Core.Path.{_≡_, refl, sym, subst, _∙_}
 use mathlib.Core.List.{List}
 use mathlib.Core.Bool.{Bool, true, false}
 use lib.ListN.{length, getD}
@@ -18,7 +18,7 @@ use Rattle.field.specs.declared.payload.Payload.the-variants.{Part}
 use Rattle.encoding.specs.declared.fields.Found.{Found}
 use Rattle.encoding.specs.declared.fields.Found.the-variants as found
 use Rattle.laws.proofs.Parts.{length-part}
-use Rattle.field.proofs.Varints.{ends}
+use Rattle.field.proofs.Varints as varints
 use Rattle.field.proofs.Rows.{kinds}
 use Rattle.encoding.proofs.Walk.{lies, tag-is}
 use Rattle.walk.specs.Places.{timeSpecOf, ioBufferOf, clientOf}
@@ -40,7 +40,7 @@ use Rattle.walk.proofs.Clients as clients
 
 -- a byte below 128 is a tag of one byte
 pub one-byte : (s : List ℕ) (at t : ℕ) → at < length s → t ≡ getD s at 0 → t < 128 → HasTag s at t
-one-byte s at t i e l = record { within = i; tagged = sym (ends s at 9 (omega arith) i (omega arith)) ∙ ap (λ (b : ℕ). Value b (at + 1)) (sym e) }
+one-byte s at t i e l = record { within = i; tagged = varints.one-byte s at t i (sym e) l }
 
 -- ---- the delay
 

@@ -8,20 +8,19 @@ use mathlib.Core.Bool.{Bool, true, false}
 use lib.ListN.{length, getD}
 use Rattle.laws.specs.Base.{pick, both, part}
 use Rattle.field.specs.Varint.{varintAt}
-use Rattle.field.specs.Field.{tagOf, tagAt, numberOf, partOf, payloadAt}
-use Rattle.field.specs.declared.varint.Varint.{Varint}
+use Rattle.field.specs.Field.{tagOf, numberOf, partOf, payloadAt}
 use Rattle.field.specs.declared.varint.Varint.the-variants.{Value}
 use Rattle.field.specs.declared.tag.Tag.{Tag}
 use Rattle.field.specs.declared.tag.Tag.the-variants as tag
 use Rattle.field.specs.declared.payload.Payload.{Payload}
 use Rattle.field.specs.declared.payload.Payload.the-variants as payload
-use Rattle.field.proofs.Varints.{ends}
 use Rattle.encoding.specs.Fields.{fieldOf, fieldFrom, fieldAt, onField, fieldsFrom, fieldsAt, among}
 use Rattle.encoding.specs.Items as item
 use Rattle.encoding.specs.Items.{Item, itemOf, items, lastFrom, lastItem, bytesOf, everyBytes}
 use Rattle.encoding.specs.declared.fields.Field.{Field}
 use Rattle.encoding.proofs.Steps.{PayloadRead, payload-at}
 use Rattle.encoding.proofs.Follow.{follow, none}
+use Rattle.encoding.proofs.Entries.{tagged}
 use Rattle.elements.specs.Elements.{itemsAt}
 use Rattle.message.specs.Signed.{signed, int32, bool}
 use Rattle.message.specs.Message.{Bytes, Entry, timeSpec, timeField, entry, entries, accept}
@@ -47,15 +46,10 @@ module _ (s : List ℕ) (x : ℕ) (within : x ≤ length s) where
   number-lies h = subst (PayloadRead s x) h (payload-at s x within x 0 within)
 
 module _ (s : List ℕ) (at : ℕ) (i : at < length s) (t f w : ℕ) (e : getD s at 0 ≡ t) (l : t < 128) (is : (x : ℕ) → tagOf (Value t x) ≡ tag.Field f w x) where
-  tagged : tagAt s at ≡ tag.Field f w (at + 1)
-  unfolding tagAt
-  tagged =
-      ap (λ (v : Varint). tagOf v) (sym (ends s at 9 (omega arith) i (omega arith)) ∙ ap (λ (b : ℕ). Value b (at + 1)) e) ∙ is (at + 1)
-
   -- the fields are the one read, and those that follow it
   read : (p : Payload) → payloadAt s at (at + 1) w ≡ p → fieldsAt s at ≡ onField (fieldsAt s) (fieldOf f p)
   unfolding fieldAt fieldFrom
-  read p h = follow s at i ∙ ap (λ (g : Tag). onField (fieldsAt s) (fieldFrom s at g)) tagged ∙ ap (λ (q : Payload). onField (fieldsAt s) (fieldOf f q)) h
+  read p h = follow s at i ∙ ap (λ (g : Tag). onField (fieldsAt s) (fieldFrom s at g)) (tagged s at t f w i l e (is (at + 1))) ∙ ap (λ (q : Payload). onField (fieldsAt s) (fieldOf f q)) h
 
   pub part-item : w ≡ 2 → {a b : ℕ} → partOf s (at + 1) (varintAt s (at + 1)) ≡ payload.Part a b → itemsAt s at ≡ item.bytes f (part s a b) ∷ itemsAt s b
   unfolding payloadAt onField fieldOf

@@ -13,7 +13,7 @@ use Rattle.field.specs.Varint.{varintAt}
 use Rattle.field.specs.Schema.{kindOf, takes, InfoMessage}
 use Rattle.field.specs.Field.{tagFits, tagOf, tagAt, fixedAt, numberOf, partOf, payloadAt}
 use Rattle.encoding.specs.Check.{stepOf, stepFrom, stepAt}
-use Rattle.encoding.specs.Check.{before, onStep, checkFrom, checkAt}
+use Rattle.encoding.specs.Check.{before, onStep, checkFrom, checkAt, checkOf}
 use Rattle.encoding.specs.Items.{Item, items, everyBytes}
 use Rattle.field.specs.declared.varint.Varint.{Varint}
 use Rattle.field.specs.declared.varint.Varint.the-variants.{Value, PastEnd, TooLong}
@@ -35,49 +35,53 @@ use Rattle.written.proofs.Joined.{items-joined}
 use Rattle.written.proofs.Values.{every-joined}
 use Rattle.written.proofs.Runs.{run-of, run-whole, run-joined}
 
--- ---- a refusal's number is not 0
+-- ---- a refusal of the check is 2 to 5
+
+-- A message and a run of entries are refused with the same numbers. Here a run needs that 0 is none of them; `agreement` cites the check's.
+abbrev pub Numbered : ℕ → Type 0
+Numbered r = (2 ≤ r) × (r ≤ 5)
 
 abbrev TagTold : Tag → Type 0
 TagTold (tag.Field f w x) = Unit
-TagTold (tag.Refused r) = 1 ≤ r
+TagTold (tag.Refused r) = Numbered r
 
 abbrev Told : Payload → Type 0
 Told (payload.Number v n) = Unit
 Told (payload.Fixed n) = Unit
 Told (payload.Part a e) = Unit
-Told (payload.Refused r p) = 1 ≤ r
+Told (payload.Refused r p) = Numbered r
 
 abbrev StepTold : Step → Type 0
 StepTold (step.Next n) = Unit
 StepTold (step.Inside i a e) = Unit
-StepTold (step.Refused r p) = 1 ≤ r
+StepTold (step.Refused r p) = Numbered r
 
-abbrev CheckTold : Checked → Type 0
+abbrev pub CheckTold : Checked → Type 0
 CheckTold checked.Fine = Unit
-CheckTold (checked.Refused r p) = 1 ≤ r
+CheckTold (checked.Refused r p) = Numbered r
 
 module _ (s : List ℕ) where
   tag-told : (r : Varint) → TagTold (tagOf r)
   unfolding tagOf
-  tag-told (Value v n) = picked TagTold (tagFits v) _ _ (λ _. tt) (λ _. omega arith)
-  tag-told PastEnd = omega arith
-  tag-told TooLong = omega arith
+  tag-told (Value v n) = picked TagTold (tagFits v) _ _ (λ _. tt) (λ _. (omega arith, omega arith))
+  tag-told PastEnd = (omega arith, omega arith)
+  tag-told TooLong = (omega arith, omega arith)
 
   number-told : (x : ℕ) (r : Varint) → Told (numberOf x r)
   unfolding numberOf
   number-told x (Value v n) = tt
-  number-told x PastEnd = omega arith
-  number-told x TooLong = omega arith
+  number-told x PastEnd = (omega arith, omega arith)
+  number-told x TooLong = (omega arith, omega arith)
 
   part-told : (x : ℕ) (r : Varint) → Told (partOf s x r)
   unfolding partOf
-  part-told x (Value v n) = picked Told (leb v (length s - n)) _ _ (λ _. tt) (λ _. omega arith)
-  part-told x PastEnd = omega arith
-  part-told x TooLong = omega arith
+  part-told x (Value v n) = picked Told (leb v (length s - n)) _ _ (λ _. tt) (λ _. (omega arith, omega arith))
+  part-told x PastEnd = (omega arith, omega arith)
+  part-told x TooLong = (omega arith, omega arith)
 
   fixed-told : (at x width : ℕ) → Told (fixedAt s at x width)
   unfolding fixedAt
-  fixed-told at x width = picked Told (leb width (length s - x)) _ _ (λ _. tt) (λ _. omega arith)
+  fixed-told at x width = picked Told (leb width (length s - x)) _ _ (λ _. tt) (λ _. (omega arith, omega arith))
 
   payload-told : (at x w : ℕ) → Told (payloadAt s at x w)
   unfolding payloadAt
@@ -97,7 +101,7 @@ module _ (s : List ℕ) where
   unfolding stepFrom
   step-from-told m at (tag.Refused r) h = h
   step-from-told m at (tag.Field f w x) h =
-      picked StepTold (takes (kindOf m f) w) _ _ (λ _. step-of-told (kindOf m f) (payloadAt s at x w) (payload-told at x w)) (λ _. omega arith)
+      picked StepTold (takes (kindOf m f) w) _ _ (λ _. step-of-told (kindOf m f) (payloadAt s at x w) (payload-told at x w)) (λ _. (omega arith, omega arith))
 
   step-told : (m at : ℕ) → StepTold (stepAt m s at)
   unfolding stepAt tagAt
@@ -117,16 +121,20 @@ on-step-told go f m s (step.Next n) h = f m s n
 on-step-told go f m s (step.Inside i a e) h = before-told a _ _ (f i (part s a e) 0) (f m s e)
 on-step-told go f m s (step.Refused r p) h = h
 
-check-told : (k m : ℕ) (s : List ℕ) (at : ℕ) → CheckTold (checkFrom k m s at)
+fields-told : (k m : ℕ) (s : List ℕ) (at : ℕ) → CheckTold (checkFrom k m s at)
 unfolding checkFrom
-check-told zero m s at = tt
-check-told (suc k) m s at =
-    picked CheckTold (ltb at (length s)) _ _ (λ _. on-step-told (checkFrom k) (check-told k) m s (stepAt m s at) (step-told s m at)) (λ _. tt)
+fields-told zero m s at = tt
+fields-told (suc k) m s at =
+    picked CheckTold (ltb at (length s)) _ _ (λ _. on-step-told (checkFrom k) (fields-told k) m s (stepAt m s at) (step-told s m at)) (λ _. tt)
+
+pub check-told : (m : ℕ) (s : List ℕ) → CheckTold (checkOf m s)
+unfolding checkAt
+check-told m s = fields-told (suc _) m s 0
 
 module _ (f : ℕ) (s : List ℕ) where
   on-entry-told : (go : ℕ → Checked) → ((n : ℕ) → CheckTold (go n)) → (q : Payload) → Told q → CheckTold (onEntry go s q)
-  unfolding onEntry checkAt
-  on-entry-told go g (payload.Part a e) h = before-told a _ _ (check-told (suc (length (part s a e) - 0)) InfoMessage (part s a e) 0) (g e)
+  unfolding onEntry
+  on-entry-told go g (payload.Part a e) h = before-told a _ _ (check-told InfoMessage (part s a e)) (g e)
   on-entry-told go g (payload.Number v n) h = g n
   on-entry-told go g (payload.Fixed n) h = g n
   on-entry-told go g (payload.Refused r p) h = h
@@ -136,8 +144,8 @@ module _ (f : ℕ) (s : List ℕ) where
   on-tag-told go g at (tag.Refused r) h = h
   on-tag-told go g at (tag.Field n w x) h =
       picked CheckTold (eqb n f) _ _
-      (λ _. picked CheckTold (eqb w 2) _ _ (λ _. on-entry-told go g (payloadAt s at x w) (payload-told s at x w)) (λ _. omega arith))
-      (λ _. omega arith)
+      (λ _. picked CheckTold (eqb w 2) _ _ (λ _. on-entry-told go g (payloadAt s at x w) (payload-told s at x w)) (λ _. (omega arith, omega arith)))
+      (λ _. (omega arith, omega arith))
 
   run-from-told : (k at : ℕ) → CheckTold (runFrom k f s at)
   unfolding runFrom tagAt

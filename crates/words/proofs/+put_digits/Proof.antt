@@ -4,7 +4,7 @@ use Rattle.words.proofs.Digits.{digits-one, digits-more}
 use Rattle.pieces.proofs.Puts.{then, nothing, put-byte, put-length}
 use native.Mathlib.Omega.{arith}
 use Prim.Native.Nat.{ℕ, _<_}
-use borrow.Fn.Kinds.{In}
+use borrow.Fn.Kinds.{In, Out}
 use borrow.Fn.PlainCycle.{Measures, is, falls, and}
 use Rattle.words.proofs.put_digits.Reads as put-digits
 use Rattle.words.proofs.put_digits.Kinds as put-digits-kinds
@@ -23,101 +23,54 @@ abbrev put-digits-below : ℕ → In 1 put-digits-kinds.ps
 put-digits-below t =
     and 1 put-digits-kinds.ps (falls 1 put-digits-kinds.ps _<_ μ-put-digits t) put-digits.Pre
 
-put-digits-returns :
-    (t : ℕ) →
-    put-digits-lts.Need-returns
-    (put-digits-below t, put-digits.Post)
-    (put-digits-at t)
-    put-digits.Post
+-- What the code needs at each number t of digits there is room for: the call within is at a smaller one.
+abbrev Every : (put-digits-lts.Claims → In 1 put-digits-kinds.ps → Out 1 put-digits-kinds.ps put-digits-kinds.r → Type 0) → Type 0
+Every Need = (t : ℕ) → Need (put-digits-below t, put-digits.Post) (put-digits-at t) put-digits.Post
+
+put-digits-returns : Every put-digits-lts.Need-returns
 unfolding digits
 put-digits-returns t c = let a = c .before .before .args in rw (c .if1 .taken) (nothing (a .out .now) (a .at) (omega arith), omega arith)
 
-put-digits-add-out :
-    (t : ℕ) →
-    put-digits-lts.Need-add-out
-    (put-digits-below t, put-digits.Post)
-    (put-digits-at t)
-    put-digits.Post
+put-digits-add-out : Every put-digits-lts.Need-add-out
 put-digits-add-out t c = omega arith
 
-put-digits-cast-out :
-    (t : ℕ) →
-    put-digits-lts.Need-cast-out
-    (put-digits-below t, put-digits.Post)
-    (put-digits-at t)
-    put-digits.Post
+put-digits-cast-out : Every put-digits-lts.Need-cast-out
 put-digits-cast-out t c = omega arith
 
-put-digits-slice-write-out : (t : ℕ) → put-digits-lts.Need-slice-write-out (
-  put-digits-below t,
-  put-digits.Post,
-) (put-digits-at t) put-digits.Post
+put-digits-slice-write-out : Every put-digits-lts.Need-slice-write-out
 put-digits-slice-write-out t c = omega arith
 
-put-digits-add-result : (t : ℕ) → put-digits-lts.Need-add-result (
-  put-digits-below t,
-  put-digits.Post,
-) (put-digits-at t) put-digits.Post
+put-digits-add-result : Every put-digits-lts.Need-add-result
 put-digits-add-result t c = omega arith
 
-put-digits-same-length : (t : ℕ) → put-digits-lts.Need-same-length (
-  put-digits-below t,
-  put-digits.Post,
-) (put-digits-at t) put-digits.Post
+put-digits-same-length : Every put-digits-lts.Need-same-length
 put-digits-same-length t c = simp length-set
 
-put-digits-returns-2 : (t : ℕ) → put-digits-lts.Need-returns-2 (
-  put-digits-below t,
-  put-digits.Post,
-) (put-digits-at t) put-digits.Post
+put-digits-returns-2 : Every put-digits-lts.Need-returns-2
 put-digits-returns-2 t c = let a = c .before .before .before .args in rw (digits-one (a .k) (a .n) (c .before .if1 .left) (c .if2 .taken)) (put-byte (a .out .now) (a .at) _ (omega arith), omega arith)
 
-put-digits-sub-put-digits : (t : ℕ) → put-digits-lts.Need-sub-put-digits (
-  put-digits-below t,
-  put-digits.Post,
-) (put-digits-at t) put-digits.Post
+put-digits-sub-put-digits : Every put-digits-lts.Need-sub-put-digits
 put-digits-sub-put-digits t c = omega arith
 
-put-digits-put-digits-requires : (t : ℕ) → put-digits-lts.Need-put-digits-requires (
-  put-digits-below t,
-  put-digits.Post,
-) (put-digits-at t) put-digits.Post
+put-digits-put-digits-requires : Every put-digits-lts.Need-put-digits-requires
 put-digits-put-digits-requires t c κs = (omega arith, omega arith)
 
-put-digits-add-out-2 : (t : ℕ) → put-digits-lts.Need-add-out-2 (
-  put-digits-below t,
-  put-digits.Post,
-) (put-digits-at t) put-digits.Post
+put-digits-add-out-2 : Every put-digits-lts.Need-add-out-2
 put-digits-add-out-2 t c = omega arith
 
-put-digits-cast-out-2 : (t : ℕ) → put-digits-lts.Need-cast-out-2 (
-  put-digits-below t,
-  put-digits.Post,
-) (put-digits-at t) put-digits.Post
+put-digits-cast-out-2 : Every put-digits-lts.Need-cast-out-2
 put-digits-cast-out-2 t c = omega arith
 
-put-digits-slice-write-out-2 : (t : ℕ) → put-digits-lts.Need-slice-write-out-2 (
-  put-digits-below t,
-  put-digits.Post,
-) (put-digits-at t) put-digits.Post
+put-digits-slice-write-out-2 : Every put-digits-lts.Need-slice-write-out-2
 put-digits-slice-write-out-2 t c = omega arith
 
-put-digits-add-result-2 : (t : ℕ) → put-digits-lts.Need-add-result-2 (
-  put-digits-below t,
-  put-digits.Post,
-) (put-digits-at t) put-digits.Post
+put-digits-add-result-2 : Every put-digits-lts.Need-add-result-2
 put-digits-add-result-2 t c = omega arith
 
-put-digits-same-length-2 : (t : ℕ) → put-digits-lts.Need-same-length-2 (
-  put-digits-below t,
-  put-digits.Post,
-) (put-digits-at t) put-digits.Post
+put-digits-same-length-2 : Every put-digits-lts.Need-same-length-2
 put-digits-same-length-2 t c = simp length-set (put-length (c .before .before .put-digits .ensures .0))
 
-put-digits-returns-3 : (t : ℕ) → put-digits-lts.Need-returns-3 (
-  put-digits-below t,
-  put-digits.Post,
-) (put-digits-at t) put-digits.Post
+put-digits-returns-3 : Every put-digits-lts.Need-returns-3
 put-digits-returns-3 t c = let a = c .before .before .before .before .before .before .before .args in let o = c .before .before .put-digits in rw (digits-more (a .k) (a .n) (c .before .before .before .before .before .if1 .left) (c .before .before .before .before .if2 .left)) (then (o .ensures .0) (put-byte (o .last .0) (o .result) _ (omega (arith, put-length (o .ensures .0)))), omega arith)
 
 pub +put-digits-spec : {M : Type 1} → statement M
