@@ -1,5 +1,4 @@
 // The required entries of an accept or a reject.
-pub mod summary;
 
 use encoding::fields::Found;
 use encoding::fields::next_part;
@@ -12,7 +11,7 @@ ghost use Rattle.encoding.specs.Items.{items};
 ghost use Rattle.message.specs.Message as m;
 ghost use Rattle.required.specs.Required.{sameBytes, keyBytes, lastValue, stringOrNone, typesFit, missing, entriesRefusal, namedKey};
 
-fn same(a: &[u8], b: &[u8]) -> bool
+pub fn same(a: &[u8], b: &[u8]) -> bool
     ensures { λ r. ⌜ r ≡ sameBytes (now (a .entry)) (now (b .entry)) ⌝ }
 {
     let n = a.len();

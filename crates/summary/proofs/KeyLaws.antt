@@ -14,12 +14,12 @@ use Rattle.encoding.specs.Items.{bytes, itemOf, items}
 use Rattle.encoding.specs.declared.fields.Field.{Field}
 use Rattle.message.specs.Message.{Bytes, Value, absent, numval, strval, strlistval, numlistval, Entry, entry}
 use Rattle.range.specs.Range.{isSet, entryFits}
 use Rattle.required.specs.Required.{sameBytes, keyBytes, stringOrNone}
-use Rattle.required.specs.Summary.{isMet, isString, EntrySeen, KeySeen}
-use Rattle.required.specs.declared.summary.Keys.{Keys}
-use Rattle.required.specs.declared.summary.Seen.{Seen}
-use Rattle.required.specs.declared.summary.Seen.the-variants as seen
+use Rattle.summary.specs.Summary.{isMet, isString, EntrySeen, KeySeen}
+use Rattle.summary.specs.declared.Keys.{Keys}
+use Rattle.summary.specs.declared.Seen.{Seen}
+use Rattle.summary.specs.declared.Seen.the-variants as seen
 use Rattle.required.proofs.Laws.{same-length}
 
 -- what holds of the four keys holds of each
 pub each-key : (P : ℕ → Type 0) → P 0 → P 1 → P 2 → P 3 → (k : ℕ) → k < 4 → P k

@@ -7,8 +7,8 @@ use Rattle.message.specs.Signed.{int32}
 use Rattle.range.specs.Range.{dateFits}
 use Rattle.range.proofs.Signs.{up-to}
 use borrow.Author.Needs.{needs}
-use Rattle.required.proofs.summary.date_seen.Statement.{statement}
-use Rattle.required.proofs.summary.date_seen.Tie as tie
+use Rattle.summary.proofs.date_seen.Statement.{statement}
+use Rattle.summary.proofs.date_seen.Tie as tie
 
 time-spec-in-requires : tie.Need-time-spec-in-requires
 time-spec-in-requires c κs = search needs

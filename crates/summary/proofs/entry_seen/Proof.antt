@@ -4,11 +4,11 @@ use Rattle.encoding.specs.Fields.{among}
 use Rattle.encoding.specs.Items.{lastFrom, bytesOf}
 use Rattle.message.specs.Message.{entry, valueOf}
 use Rattle.range.specs.Range.{isSet}
-use Rattle.required.specs.Summary.{isString, EntrySeen}
-use Rattle.required.proofs.KeyLaws.{by-value}
+use Rattle.summary.specs.Summary.{isString, EntrySeen}
+use Rattle.summary.proofs.KeyLaws.{by-value}
 use borrow.Author.Needs.{needs}
-use Rattle.required.proofs.summary.entry_seen.Statement.{statement}
-use Rattle.required.proofs.summary.entry_seen.Tie as tie
+use Rattle.summary.proofs.entry_seen.Statement.{statement}
+use Rattle.summary.proofs.entry_seen.Tie as tie
 
 plain-entry-requires : tie.Need-plain-entry-requires
 plain-entry-requires c κs = search needs

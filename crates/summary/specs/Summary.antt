@@ -10,12 +10,12 @@ use Rattle.field.specs.Schema.{AcceptMessage}
 use Rattle.encoding.specs.Items.{items}
 use Rattle.message.specs.Message.{Bytes, Value, absent, numval, strval, strlistval, numlistval, Entry, entries, accept}
 use Rattle.range.specs.Range.{entryFits, bodyFits}
 use Rattle.required.specs.Required.{sameBytes, keyBytes, stringOrNone, entriesRefusal}
-use Rattle.required.specs.declared.summary.Keys.{Keys}
-use Rattle.required.specs.declared.summary.Seen.{Seen}
-use Rattle.required.specs.declared.summary.Seen.the-variants as seen
-use Rattle.required.specs.declared.summary.Summary.{Summary}
-use Rattle.required.specs.declared.summary.Summary.the-variants as summary
+use Rattle.summary.specs.declared.Keys.{Keys}
+use Rattle.summary.specs.declared.Seen.{Seen}
+use Rattle.summary.specs.declared.Seen.the-variants as seen
+use Rattle.summary.specs.declared.Summary.{Summary}
+use Rattle.summary.specs.declared.Summary.the-variants as summary
 
 -- a sound accept has its flag, its values are in range, and its required entries are there
 unfoldable pub Summarised : List ℕ → Summary → Type 0

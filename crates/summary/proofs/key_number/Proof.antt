@@ -1,11 +1,11 @@
 use native.Mathlib.Omega.{arith}
 use mathlib.Core.Path.{refl, sym, _∙_}
 use lib.Dec.{lit≤}
 use Rattle.required.specs.Required.{keyBytes}
-use Rattle.required.proofs.KeyLaws.{key-there, key-other, key-length}
+use Rattle.summary.proofs.KeyLaws.{key-there, key-other, key-length}
 use borrow.Author.Needs.{needs}
-use Rattle.required.proofs.summary.key_number.Statement.{statement}
-use Rattle.required.proofs.summary.key_number.Tie as tie
+use Rattle.summary.proofs.key_number.Statement.{statement}
+use Rattle.summary.proofs.key_number.Tie as tie
 
 slice-aggregate-same : tie.Need-slice-aggregate-same
 slice-aggregate-same c = search needs

@@ -1,9 +1,9 @@
 use mathlib.Core.Path.{refl}
 use borrow.Author.Tests.{ne-eqb}
-use Rattle.required.specs.Summary.{isMet}
-use Rattle.required.proofs.KeyLaws.{each-key}
-use Rattle.required.proofs.summary.with_key.Statement.{statement}
-use Rattle.required.proofs.summary.with_key.Tie as tie
+use Rattle.summary.specs.Summary.{isMet}
+use Rattle.summary.proofs.KeyLaws.{each-key}
+use Rattle.summary.proofs.with_key.Statement.{statement}
+use Rattle.summary.proofs.with_key.Tie as tie
 
 returns : tie.Need-returns
 unfolding isMet

@@ -1,10 +1,10 @@
 use Prim.Native.Nat.{ℕ}
 use native.Mathlib.Omega.{arith}
 use mathlib.Core.Path.{_≡_}
-use Rattle.required.specs.Summary.{isMet}
-use Rattle.required.proofs.KeyLaws.{each-key}
-use Rattle.required.proofs.summary.all_met.Statement.{statement}
-use Rattle.required.proofs.summary.all_met.Tie as tie
+use Rattle.summary.specs.Summary.{isMet}
+use Rattle.summary.proofs.KeyLaws.{each-key}
+use Rattle.summary.proofs.all_met.Statement.{statement}
+use Rattle.summary.proofs.all_met.Tie as tie
 
 returns : tie.Need-returns
 unfolding isMet

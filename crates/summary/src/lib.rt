@@ -1,6 +1,5 @@
 // An accept in the form in which clients send it, looked at in one pass: each tag is one byte, each entry a key and one value, each
 // required entry a string. This is a short way. An accept in another form, one that is to be refused too, takes the general one.
-use crate::same;
 use encoding::entry::Plain;
 use encoding::entry::plain_entry;
 use field::payload::Payload;
@@ -8,6 +7,7 @@ use field::payload::number_at;
 use field::payload::part_at;
 use laws::wide;
 use message::time_spec_in;
+use required::same;
 ghost use mathlib.Core.Path.{_≡_};
 ghost use mathlib.Core.Bool.{true};
 ghost use Prim.Native.Nat.{ℕ, _<_, _≤_};
@@ -17,8 +17,8 @@ ghost use Rattle.laws.specs.Base.{pick, part};
 ghost use Rattle.encoding.specs.Items.{items};
 ghost use Rattle.message.specs.Message as m;
 ghost use Rattle.range.specs.Range.{dateFits, isSet};
 ghost use Rattle.required.specs.Required.{sameBytes, keyBytes};
-ghost use Rattle.required.specs.Summary.{isMet, isString, EntrySeen, KeySeen, Summarised};
+ghost use Rattle.summary.specs.Summary.{isMet, isString, EntrySeen, KeySeen, Summarised};
 
 // The required keys that entries had so far.
 pub struct Keys {

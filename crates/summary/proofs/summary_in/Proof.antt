@@ -6,10 +6,10 @@ use lib.Dec.{lit≤}
 use borrow.Author.Needs.{needs}
 use Rattle.field.specs.Field.{tagFits, tagOf}
 use Rattle.message.specs.Signed.{bool}
-use Rattle.required.specs.Summary.{EntrySeen, Summarised}
-use Rattle.required.proofs.Summaries.{part-lies, number-lies, part-item, number-item, Told, start, flagged, dated, entered, finish}
-use Rattle.required.proofs.summary.summary_in.Statement.{statement}
-use Rattle.required.proofs.summary.summary_in.Tie as tie
+use Rattle.summary.specs.Summary.{EntrySeen, Summarised}
+use Rattle.summary.proofs.Summaries.{part-lies, number-lies, part-item, number-item, Told, start, flagged, dated, entered, finish}
+use Rattle.summary.proofs.summary_in.Statement.{statement}
+use Rattle.summary.proofs.summary_in.Tie as tie
 
 abbrev Inv-loop : tie.InvT-loop
 Inv-loop s at₀ expect₀ keys₀ at expect keys = Told s at expect keys

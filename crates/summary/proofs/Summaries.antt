@@ -25,13 +25,13 @@ use Rattle.elements.specs.Elements.{itemsAt}
 use Rattle.message.specs.Signed.{signed, int32, bool}
 use Rattle.message.specs.Message.{Bytes, Entry, timeSpec, timeField, entry, entries, accept}
 use Rattle.range.specs.Range.{upTo, dateFits, entriesFit, acceptFits, bodyFits}
 use Rattle.required.specs.Required.{sameBytes, keyBytes, lastValue, stringOrNone, typesFrom, has, missingFrom, entriesRefusal}
-use Rattle.required.specs.Summary.{isMet, Passed, EntrySeen, Summarised}
-use Rattle.required.specs.declared.summary.Keys.{Keys}
-use Rattle.required.specs.declared.summary.Seen.the-variants as seen
-use Rattle.required.specs.declared.summary.Summary.the-variants as summary
+use Rattle.summary.specs.Summary.{isMet, Passed, EntrySeen, Summarised}
+use Rattle.summary.specs.declared.Keys.{Keys}
+use Rattle.summary.specs.declared.Seen.the-variants as seen
+use Rattle.summary.specs.declared.Summary.the-variants as summary
 use Rattle.required.proofs.Laws.{entriesAt, all-entries, fitsFrom, fits-all}
-use Rattle.required.proofs.KeyLaws.{each-key}
+use Rattle.summary.proofs.KeyLaws.{each-key}
 
 -- ---- a field by its tag, which is one byte
 
