@@ -15,7 +15,7 @@ use Rattle.message.specs.Message.{Bytes}
 use Rattle.record.specs.Record.{Record, recordBytes, isTimed}
 use Rattle.record.specs.File as file
 use Rattle.record.specs.File.{recordsOf, fileBytes, limit, timeOf, total, lowFrom, lowTotal, unfinished, mayFollow, restKind, recordsKind, meets, keep}
-use Rattle.record.specs.Store.{inRange}
+use Rattle.store.specs.Store.{inRange}
 use Rattle.record.proofs.Times.{accept-cons}
 use Rattle.record.proofs.Reading.{InRange, Ranged, no-records, one-more, file-of-records}
 use Rattle.record.proofs.Appends.{snoc, file-snoc, file-stored, kind-timed, total-timed, low-timed}

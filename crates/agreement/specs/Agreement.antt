@@ -12,7 +12,7 @@ use Rattle.wire.specs.Read.{value, clientMessage}
 use Rattle.record.specs.Record.{Record}
 use Rattle.record.specs.File as file
 use Rattle.record.specs.File.{recordsOf, fileBytes, total, lowTotal, unfinished, finished, recordsKind}
-use Rattle.record.specs.Store.{inRange}
+use Rattle.store.specs.Store.{inRange}
 use Rattle.session.specs.Step as session
 use Rattle.session.specs.Step.{Outcome}
 use Rattle.session.specs.Examples.{accept, ttyout}

@@ -3,8 +3,8 @@ pub mod Records
 pub mod Times
 pub mod Heads
 pub mod Steps
-pub mod Stores
 pub mod Reading
+pub mod Splices
 pub mod Appends
 pub mod Restarts
 pub mod Beginnings

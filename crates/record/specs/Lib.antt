@@ -3,4 +3,3 @@ pub mod Record
 pub mod File
 pub mod State
 pub mod Walk
-pub mod Store
