@@ -8,7 +8,7 @@ use lib.ListN.{length, take}
 use lib.Dec.{leb, eqb}
 use Rattle.laws.specs.Base.{both}
 use Rattle.laws.proofs.Order.{picked}
-use Rattle.encoding.specs.Items.{items, lastItem, bytesOf}
+use Rattle.fields.specs.Items.{items, lastItem, bytesOf}
 use Rattle.message.specs.Message.{Bytes, Exit, Client, acceptMsg, rejectMsg, exitMsg, restartMsg, alertMsg, ioBuf, winsizeEvent, suspendEvent, helloMsg}
 use Rattle.range.specs.Range.{reportFits, exitFits, ioFits, windowFits, suspendFits}
 use Rattle.wire.specs.Read.{value, clientMessage}

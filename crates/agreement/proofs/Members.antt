@@ -9,8 +9,8 @@ use borrow.Author.Tests.{leb-true, eqb-false}
 use Rattle.laws.proofs.Order.{picked, both-true}
 use Rattle.field.specs.Schema.{ClientMessage}
 use Rattle.encoding.specs.Check.{checkOf}
-use Rattle.encoding.specs.Fields.{among}
-use Rattle.encoding.specs.Items.{Item, none, number, bytes, items, lastFrom, lastItem}
+use Rattle.fields.specs.Fields.{among}
+use Rattle.fields.specs.Items.{Item, none, number, bytes, items, lastFrom, lastItem}
 use Rattle.encoding.specs.declared.check.Checked.{Checked}
 use Rattle.encoding.specs.declared.check.Checked.the-variants as checked
 use Rattle.message.specs.Message.{Bytes, Client, acceptMsg, rejectMsg, exitMsg, restartMsg, alertMsg, ioBuf, winsizeEvent, suspendEvent, helloMsg, clientMember}

@@ -8,7 +8,7 @@ use lib.ListN.{length}
 use lib.Dec.{leb}
 use borrow.Author.Tests.{eq-eqb, ne-eqb}
 use Rattle.laws.proofs.Order.{picked}
-use Rattle.encoding.specs.Items.{items, lastItem, bytesOf}
+use Rattle.fields.specs.Items.{items, lastItem, bytesOf}
 use Rattle.message.specs.Message.{Bytes, Exit, exitMsg}
 use Rattle.range.specs.Range.{exitFits}
 use Rattle.wire.specs.Read.{value, clientMessage}

@@ -11,7 +11,7 @@ use lib.Dec.{leb, eqb}
 use borrow.Author.Tests.{leb-true, le-leb, eqb-true}
 use Rattle.laws.specs.Base.{pick, both}
 use Rattle.laws.proofs.Order.{picked, both-true}
-use Rattle.encoding.specs.Items.{items, lastItem, bytesOf}
+use Rattle.fields.specs.Items.{items, lastItem, bytesOf}
 use Rattle.message.specs.Message.{Bytes, Accept, Report, Exit, Restart, Client, acceptMsg, rejectMsg, exitMsg, restartMsg, alertMsg, ioBuf, winsizeEvent, suspendEvent, helloMsg}
 use Rattle.range.specs.Range.{acceptFits, reportFits, exitFits, restartFits, ioFits, windowFits, suspendFits}
 use Rattle.wire.specs.Read.{Reading, value, refused, clientMessage}

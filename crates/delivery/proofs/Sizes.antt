@@ -14,13 +14,13 @@ use Rattle.laws.proofs.Order.{picked}
 use Rattle.laws.proofs.Parts.{length-part}
 use Rattle.field.specs.Schema.{ClientMessage}
 use Rattle.encoding.specs.Check.{checkOf}
-use Rattle.encoding.specs.Fields.{fieldAt, onField, fieldsFrom, fieldsAt, among}
-use Rattle.encoding.specs.Items.{Item, none, number, bytes, itemOf, items, lastFrom, lastItem, bytesOf}
+use Rattle.fields.specs.Fields.{fieldAt, onField, fieldsFrom, fieldsAt, among}
+use Rattle.fields.specs.Items.{Item, none, number, bytes, itemOf, items, lastFrom, lastItem, bytesOf}
 use Rattle.encoding.specs.declared.check.Checked.{Checked}
 use Rattle.encoding.specs.declared.check.Checked.the-variants as checked
-use Rattle.encoding.specs.declared.fields.Field.{Field}
-use Rattle.encoding.specs.declared.fields.Field.the-variants as field
-use Rattle.encoding.proofs.Follow.{FieldRead, field-read}
+use Rattle.fields.specs.declared.Field.{Field}
+use Rattle.fields.specs.declared.Field.the-variants as field
+use Rattle.fields.proofs.Follow.{FieldRead, field-read}
 use Rattle.encoding.proofs.Walk.{alone}
 use Rattle.message.specs.Message as m
 use Rattle.message.specs.Message.{Bytes, Exit, Client, acceptMsg, rejectMsg, exitMsg, restartMsg, alertMsg, ioBuf, winsizeEvent, suspendEvent, helloMsg, clientMember}

@@ -7,7 +7,7 @@ use mathlib.Core.Bool.{Bool, true}
 use mathlib.Core.List.{List, [], _∷_, _++_, map}
 use lib.Dec.{leb}
 use Rattle.laws.specs.Base.{pick, both}
-use Rattle.encoding.specs.Items.{items}
+use Rattle.fields.specs.Items.{items}
 use Rattle.message.specs.Message as m
 use Rattle.message.specs.Message.{Bytes, Timed, WindowSize, Exit}
 use Rattle.range.specs.Range.{acceptFits, exitFits, ioFits, windowFits, suspendFits}

@@ -6,7 +6,7 @@ use mathlib.Core.Bool.{Bool, true, false}
 use mathlib.Core.Option.{Option, none, some}
 use mathlib.Core.List.{List, [], _∷_, _++_, map}
 use lib.ListN.{length}
-use Rattle.encoding.specs.Items.{items, lastItem, bytesOf}
+use Rattle.fields.specs.Items.{items, lastItem, bytesOf}
 use Rattle.message.specs.Message as m
 use Rattle.message.specs.Message.{Bytes, Exit, Restart, Client, acceptMsg, exitMsg, restartMsg, ioBuf, winsizeEvent, suspendEvent, helloMsg}
 use Rattle.range.specs.Range.{restartFits}

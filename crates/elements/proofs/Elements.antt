@@ -9,12 +9,12 @@ use lib.ListN.{length}
 use lib.Dec.{eqb}
 use Rattle.laws.specs.Base.{pick, part}
 use Rattle.laws.proofs.Order.{lt-or-le}
-use Rattle.encoding.specs.Fields.{fieldAt, onField, fieldsAt, firstOf}
-use Rattle.encoding.specs.Items.{itemOf, items, everyBytes}
-use Rattle.encoding.specs.declared.fields.Field.{Field}
-use Rattle.encoding.specs.declared.fields.Field.the-variants as field
-use Rattle.encoding.specs.declared.fields.Found.the-variants as found
-use Rattle.encoding.proofs.Follow.{FieldRead, field-read, follow, none}
+use Rattle.fields.specs.Fields.{fieldAt, onField, fieldsAt, firstOf}
+use Rattle.fields.specs.Items.{itemOf, items, everyBytes}
+use Rattle.fields.specs.declared.Field.{Field}
+use Rattle.fields.specs.declared.Field.the-variants as field
+use Rattle.fields.specs.declared.Found.the-variants as found
+use Rattle.fields.proofs.Follow.{FieldRead, field-read, follow, none}
 use Rattle.elements.specs.Elements.{elementsAt}
 
 -- the elements of a whole message

@@ -4,8 +4,8 @@ use mathlib.Core.List.{List, [], _∷_}
 use Prim.Native.Nat.{ℕ}
 use Rattle.field.specs.Varint.{varintFrom}
 use Rattle.field.specs.Field.{tagFits, tagOf, tagAt, numberOf, partOf, payloadAt}
-use Rattle.encoding.specs.Fields.{fieldOf, fieldFrom, fieldAt, onField, fieldsFrom, fieldsAt}
-use Rattle.encoding.specs.Items.{items, everyBytes}
+use Rattle.fields.specs.Fields.{fieldOf, fieldFrom, fieldAt, onField, fieldsFrom, fieldsAt}
+use Rattle.fields.specs.Items.{items, everyBytes}
 use Rattle.elements.specs.Elements.{elementsAt, onVarint, varintsFrom, varintsAt, numbersOf, numbersAt}
 
 -- 5 alone, 1 and 300 packed, an empty packed part, field 2, 7 alone

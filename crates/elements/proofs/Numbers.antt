@@ -11,14 +11,14 @@ use borrow.Author.Tests.{lt-ltb, le-ltb}
 use Rattle.laws.specs.Base.{pick, part}
 use Rattle.laws.proofs.Order.{lt-or-le, picked}
 use Rattle.field.specs.Varint.{varintAt}
-use Rattle.encoding.specs.Fields.{fieldAt, onField, fieldsAt}
-use Rattle.encoding.specs.Items.{number, bytes, itemOf, items}
-use Rattle.encoding.specs.declared.fields.Field.{Field}
+use Rattle.fields.specs.Fields.{fieldAt, onField, fieldsAt}
+use Rattle.fields.specs.Items.{number, bytes, itemOf, items}
+use Rattle.fields.specs.declared.Field.{Field}
 use Rattle.field.specs.declared.varint.Varint.{Varint}
 use Rattle.field.specs.declared.varint.Varint.the-variants.{Value, PastEnd}
 use Rattle.field.proofs.Varints.{past}
-use Rattle.encoding.proofs.Steps.{Read, read}
-use Rattle.encoding.proofs.Follow.{FieldRead, field-read, follow, none}
+use Rattle.fields.proofs.Reach.{Read, read}
+use Rattle.fields.proofs.Follow.{FieldRead, field-read, follow, none}
 use Rattle.elements.specs.Elements.{itemsAt, onVarint, varintsAt, varints, numbersOf, numbersAt, told}
 use Rattle.elements.specs.declared.Next.the-variants as next
 use Rattle.elements.proofs.Packed.{varints-follow, packed}

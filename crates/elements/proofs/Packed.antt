@@ -16,7 +16,7 @@ use Rattle.laws.proofs.Order.{lt-or-le}
 use Rattle.field.specs.Varint.{above, varintFrom, varintAt}
 use Rattle.field.specs.declared.varint.Varint.{Varint}
 use Rattle.field.specs.declared.varint.Varint.the-variants.{Value, PastEnd, TooLong}
-use Rattle.encoding.proofs.Steps.{Read, read}
+use Rattle.fields.proofs.Reach.{Read, read}
 use Rattle.elements.specs.Elements.{onVarint, varintsFrom, varintsAt, varints}
 
 module _ (d : List ℕ) where

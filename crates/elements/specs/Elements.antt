@@ -5,8 +5,8 @@ use lib.ListN.{length, take}
 use lib.Dec.{ltb, eqb}
 use Rattle.laws.specs.Base.{pick}
 use Rattle.field.specs.Varint.{varintAt}
-use Rattle.encoding.specs.Fields.{fieldsAt}
-use Rattle.encoding.specs.Items.{Item, none, number, bytes, itemOf, everyBytes}
+use Rattle.fields.specs.Fields.{fieldsAt}
+use Rattle.fields.specs.Items.{Item, none, number, bytes, itemOf, everyBytes}
 use Rattle.field.specs.declared.varint.Varint.{Varint}
 use Rattle.field.specs.declared.varint.Varint.the-variants.{Value, PastEnd, TooLong}
 use Rattle.elements.specs.declared.Next.{Next}

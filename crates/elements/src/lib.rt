@@ -1,9 +1,9 @@
 // The elements of a message's lists, one after the other. The bytes of a field come by encoding's `next_part`, whose answers
 // proofs/Elements ties to the list of all of them; the numbers of a NumberList come by `next_number`.
-use encoding::fields::Field;
-use encoding::fields::field_at;
 use field::varint::Varint;
 use field::varint::varint_at;
+use fields::Field;
+use fields::field_at;
 ghost use mathlib.Core.Path.{_≡_};
 ghost use lib.ListN.{take};
 ghost use lib.Dec.{ltb, eqb};

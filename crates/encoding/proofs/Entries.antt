@@ -13,19 +13,19 @@ use Rattle.field.specs.Varint.{varintAt}
 use Rattle.field.specs.Schema.{kindOf, takes, schema, InfoMessage, StringList}
 use Rattle.field.specs.Field.{tagFits, tagOf, tagAt, numberOf, partOf, payloadAt}
 use Rattle.encoding.specs.Check.{stepOf, checkAt, checkOf}
-use Rattle.encoding.specs.Fields.{fieldOf, fieldAt, onField, fieldsAt}
+use Rattle.fields.specs.Fields.{fieldOf, fieldAt, onField, fieldsAt}
 use Rattle.encoding.specs.Entry.{Keyed, Holds, Reaches, Formed}
 use Rattle.field.specs.declared.varint.Varint.the-variants.{Value}
 use Rattle.field.specs.declared.tag.Tag.the-variants as tag
 use Rattle.field.specs.declared.payload.Payload.the-variants as payload
 use Rattle.encoding.specs.declared.check.Checked.{Checked}
 use Rattle.encoding.specs.declared.check.Checked.the-variants as checked
-use Rattle.encoding.specs.declared.fields.Field.{Field}
-use Rattle.encoding.specs.declared.fields.Field.the-variants as field
+use Rattle.fields.specs.declared.Field.{Field}
+use Rattle.fields.specs.declared.Field.the-variants as field
 use Rattle.encoding.specs.declared.entry.Plain.the-variants as plain
 use Rattle.field.proofs.Varints.{one-byte}
 use Rattle.encoding.proofs.Checks.{at-end}
-use Rattle.encoding.proofs.Follow.{FieldRead, field-read, follow, none}
+use Rattle.fields.proofs.Follow.{FieldRead, field-read, follow, none}
 use Rattle.encoding.proofs.Walk.{Leads, further, checks-on, tag-is, field-leads, field-inside, field-part, inside-on}
 
 -- ---- one field

@@ -14,8 +14,8 @@ use Rattle.field.specs.Field.{tagFits, tagOf, tagAt, numberOf, partOf, payloadA
 use Rattle.encoding.specs.Check.{stepOf, stepFrom, stepAt}
 use Rattle.laws.specs.Base.{part}
 use Rattle.encoding.specs.Check.{before, onStep, checkAt, checkOf}
-use Rattle.encoding.specs.Fields.{fieldOf, fieldFrom, fieldAt, onField, fieldsAt, fieldsOf, among, later, lastOf, lastIn}
-use Rattle.encoding.specs.Fields.{numberFrom, numberIn}
+use Rattle.fields.specs.Fields.{fieldOf, fieldFrom, fieldAt, onField, fieldsAt, fieldsOf, among, later, lastOf, lastIn}
+use Rattle.fields.specs.Fields.{numberFrom, numberIn}
 use Rattle.field.specs.declared.varint.Varint.{Varint}
 use Rattle.field.specs.declared.varint.Varint.the-variants.{Value, PastEnd, TooLong}
 use Rattle.field.specs.declared.tag.Tag.{Tag}
@@ -26,13 +26,13 @@ use Rattle.encoding.specs.declared.check.Step.{Step}
 use Rattle.encoding.specs.declared.check.Step.the-variants as step
 use Rattle.encoding.specs.declared.check.Checked.{Checked}
 use Rattle.encoding.specs.declared.check.Checked.the-variants as checked
-use Rattle.encoding.specs.declared.fields.Field.{Field}
-use Rattle.encoding.specs.declared.fields.Field.the-variants as field
-use Rattle.encoding.specs.declared.fields.Last.{Last}
-use Rattle.encoding.specs.declared.fields.Last.the-variants as last
+use Rattle.fields.specs.declared.Field.{Field}
+use Rattle.fields.specs.declared.Field.the-variants as field
+use Rattle.fields.specs.declared.Last.{Last}
+use Rattle.fields.specs.declared.Last.the-variants as last
 use Rattle.encoding.proofs.Steps.{StepRead, step-at}
 use Rattle.encoding.proofs.Checks.{next, at-end}
-use Rattle.encoding.proofs.Follow.{follow, none}
+use Rattle.fields.proofs.Follow.{follow, none}
 
 -- from f to f is f alone
 pub alone : (f g : ℕ) → among f f g ≡ eqb g f

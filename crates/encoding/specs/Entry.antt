@@ -6,11 +6,11 @@ use lib.ListN.{length}
 use Rattle.laws.specs.Base.{part}
 use Rattle.field.specs.Schema.{InfoMessage, StringList, NumberList}
 use Rattle.encoding.specs.Check.{stepAt, checkOf}
-use Rattle.encoding.specs.Fields.{fieldAt, fieldsOf}
+use Rattle.fields.specs.Fields.{fieldAt, fieldsOf}
 use Rattle.encoding.specs.declared.check.Step.the-variants.{Next}
 use Rattle.encoding.specs.declared.check.Checked.the-variants.{Fine}
-use Rattle.encoding.specs.declared.fields.Field.{Field}
-use Rattle.encoding.specs.declared.fields.Field.the-variants as field
+use Rattle.fields.specs.declared.Field.{Field}
+use Rattle.fields.specs.declared.Field.the-variants as field
 use Rattle.encoding.specs.declared.entry.Plain.{Plain}
 use Rattle.encoding.specs.declared.entry.Plain.the-variants as plain
 

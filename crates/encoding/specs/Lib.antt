@@ -1,4 +1,2 @@
 pub mod Check
 pub mod Entry
-pub mod Fields
-pub mod Items

@@ -3,8 +3,8 @@ use Prim.Native.Nat.{ℕ, _≤_}
 use mathlib.Core.List.{List}
 use lib.ListN.{length}
 use Rattle.laws.specs.Base.{part}
-use Rattle.encoding.specs.Items.{items, everyBytes}
-use Rattle.encoding.specs.declared.fields.Span.{Span}
+use Rattle.fields.specs.Items.{items, everyBytes}
+use Rattle.fields.specs.declared.Span.{Span}
 use Rattle.walk.specs.declared.time.Time.{Time}
 use Rattle.message.specs.Signed.{int64, int32}
 use Rattle.message.specs.Message as m

@@ -1,14 +1,14 @@
 // What the messages of sudo_logsrv.proto mean, and the values of each embedded message: numbers as they were read, and places
 // of bytes. They are those of every slice, checked or not; a message that the check refuses has the fields before the broken one.
-use encoding::fields::Last;
-use encoding::fields::Span;
-use encoding::fields::last_in;
-use encoding::fields::number_in;
-use encoding::fields::part_in;
+use fields::Last;
+use fields::Span;
+use fields::last_in;
+use fields::number_in;
+use fields::part_in;
 use walk::time::Time;
 use walk::time::time_in;
 ghost use mathlib.Core.Path.{_≡_};
-ghost use Rattle.encoding.specs.Items.{items, lastItem};
+ghost use Rattle.fields.specs.Items.{items, lastItem};
 ghost use Rattle.message.specs.Signed.{bool};
 ghost use Rattle.message.specs.Message as m;
 ghost use Rattle.message.specs.Places.{Within, timeValue, acceptValue, reportValue, exitValue, restartValue, timedValue, windowValue, serverHelloValue, valueAt, entryValue};

@@ -15,8 +15,8 @@ use Rattle.field.specs.declared.varint.Varint.{Varint}
 use Rattle.field.specs.declared.varint.Varint.the-variants.{Value}
 use Rattle.field.specs.declared.tag.Tag.the-variants as tag
 use Rattle.field.specs.declared.payload.Payload.the-variants.{Part}
-use Rattle.encoding.specs.declared.fields.Found.{Found}
-use Rattle.encoding.specs.declared.fields.Found.the-variants as found
+use Rattle.fields.specs.declared.Found.{Found}
+use Rattle.fields.specs.declared.Found.the-variants as found
 use Rattle.laws.proofs.Parts.{length-part}
 use Rattle.field.proofs.Varints as varints
 use Rattle.field.proofs.Rows.{kinds}

@@ -8,8 +8,8 @@ use Rattle.field.specs.Varint.{varintAt}
 use Rattle.field.specs.Field.{partOf}
 use Rattle.field.specs.declared.varint.Varint.the-variants.{Value}
 use Rattle.field.specs.declared.payload.Payload.the-variants.{Part}
-use Rattle.encoding.specs.declared.fields.Found.{Found}
-use Rattle.encoding.specs.declared.fields.Found.the-variants as found
+use Rattle.fields.specs.declared.Found.{Found}
+use Rattle.fields.specs.declared.Found.the-variants as found
 use Rattle.walk.specs.Places.{timeSpecOf, ioBufferOf, clientOf}
 use Rattle.walk.specs.declared.time.TimeRead.the-variants as timeread
 use Rattle.walk.specs.declared.io.IoRead.the-variants as ioread

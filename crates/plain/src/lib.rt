@@ -1,10 +1,10 @@
 // A ClientMessage. I/O buffers have a short way, for the form in which clients send them: one member that is the whole message, a delay,
 // then the data to the end. That is nearly every message of a session. What is in another form, damaged messages too, takes the walk.
-use encoding::fields::Found;
 use field::payload::Payload;
 use field::payload::part_at;
 use field::varint::Varint;
 use field::varint::varint_at;
+use fields::Found;
 use laws::wide;
 use walk::client::ClientRead;
 use walk::client::client_walk;

@@ -1,11 +1,11 @@
 // The ranges of document 01's table.
-use encoding::fields::Found;
-use encoding::fields::Last;
-use encoding::fields::last_in;
-use encoding::fields::next_part;
-use encoding::fields::number_in;
-use encoding::fields::part_in;
 use field::schema::kind_of;
+use fields::Found;
+use fields::Last;
+use fields::last_in;
+use fields::next_part;
+use fields::number_in;
+use fields::part_in;
 use message::Value;
 use message::time_spec_in;
 use message::value_in;
@@ -14,7 +14,7 @@ use walk::time::time_in;
 ghost use mathlib.Core.Path.{_≡_};
 ghost use Prim.Native.Nat.{_<_};
 ghost use lib.ListN.{length};
-ghost use Rattle.encoding.specs.Items.{items, lastItem};
+ghost use Rattle.fields.specs.Items.{items, lastItem};
 ghost use Rattle.message.specs.Signed.{int32};
 ghost use Rattle.message.specs.Message as m;
 ghost use Rattle.message.specs.Places.{timeValue};

@@ -6,9 +6,9 @@ use lib.ListN.{length}
 use lib.Dec.{leb, eqb}
 use Rattle.laws.specs.Base.{pick}
 use Rattle.field.specs.Schema.{ClientMessage, InfoMessage, ServerMessage}
-use Rattle.encoding.specs.Fields.{lastIn, memberFrom}
-use Rattle.encoding.specs.declared.fields.Found.{Found}
-use Rattle.encoding.specs.declared.fields.Found.the-variants as found
+use Rattle.fields.specs.Fields.{lastIn, memberFrom}
+use Rattle.fields.specs.declared.Found.{Found}
+use Rattle.fields.specs.declared.Found.the-variants as found
 use Rattle.numbers.specs.Eight.{laid}
 use Rattle.elements.specs.Elements.{numbersAt}
 use Rattle.walk.specs.declared.client.ClientRead.{ClientRead}

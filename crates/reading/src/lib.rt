@@ -3,12 +3,12 @@
 
 use elements::Next;
 use elements::next_number;
-use encoding::fields::Found;
-use encoding::fields::Last;
-use encoding::fields::last_in;
-use encoding::fields::next_part;
-use encoding::fields::number_in;
-use encoding::fields::part_in;
+use fields::Found;
+use fields::Last;
+use fields::last_in;
+use fields::next_part;
+use fields::number_in;
+use fields::part_in;
 use frame::count_of;
 use frame::cut_frame;
 use frame::state_of;
@@ -22,7 +22,7 @@ ghost use mathlib.Core.Path.{_≡_};
 ghost use Prim.Native.Nat.{_-_};
 ghost use lib.ListN.{length};
 ghost use Rattle.frame.specs.Frame.{cutOf, stateOf, countOf};
-ghost use Rattle.encoding.specs.Fields.{fieldsAt, lastIn, numberIn, spanIn, firstOf, memberFrom};
+ghost use Rattle.fields.specs.Fields.{fieldsAt, lastIn, numberIn, spanIn, firstOf, memberFrom};
 ghost use Rattle.elements.specs.Elements.{numbersAt};
 ghost use Rattle.walk.specs.Places.{clientOf};
 ghost use Rattle.wire.specs.Read.{decodeNumber, readNumber};

@@ -9,9 +9,9 @@ use lib.ListN.{length, drop, getD, drop-of-length-le}
 use lib.Seq.{drop-cons}
 use lib.Dec.{eqb}
 use Rattle.laws.specs.Base.{pick, both, part}
-use Rattle.encoding.specs.Fields.{fieldsAt, firstOf}
-use Rattle.encoding.specs.Items.{items}
-use Rattle.encoding.specs.declared.fields.Found.the-variants as found
+use Rattle.fields.specs.Fields.{fieldsAt, firstOf}
+use Rattle.fields.specs.Items.{items}
+use Rattle.fields.specs.declared.Found.the-variants as found
 use Rattle.elements.specs.Elements.{elementsAt}
 use Rattle.elements.proofs.Elements.{all-elements, found-none, found-part}
 use Rattle.message.specs.Message.{Bytes, Value, Entry, entry, entries}

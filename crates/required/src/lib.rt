@@ -1,13 +1,13 @@
 // The required entries of an accept or a reject.
 
-use encoding::fields::Found;
-use encoding::fields::next_part;
-use encoding::fields::part_in;
+use fields::Found;
+use fields::next_part;
+use fields::part_in;
 use message::Value;
 use message::value_in;
 ghost use mathlib.Core.Path.{_≡_};
 ghost use Prim.Native.Nat.{ℕ};
-ghost use Rattle.encoding.specs.Items.{items};
+ghost use Rattle.fields.specs.Items.{items};
 ghost use Rattle.message.specs.Message as m;
 ghost use Rattle.required.specs.Required.{sameBytes, keyBytes, lastValue, stringOrNone, typesFit, missing, entriesRefusal, namedKey};
 

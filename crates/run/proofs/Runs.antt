@@ -19,7 +19,7 @@ use Rattle.field.specs.declared.payload.Payload.{Payload}
 use Rattle.field.specs.declared.payload.Payload.the-variants as payload
 use Rattle.encoding.specs.declared.check.Checked.{Checked}
 use Rattle.encoding.specs.declared.check.Checked.the-variants as checked
-use Rattle.encoding.proofs.Steps.{TagRead, tag-at, PayloadRead, payload-at}
+use Rattle.fields.proofs.Reach.{TagRead, tag-at, PayloadRead, payload-at}
 use Rattle.written.specs.Run.{onEntry, onTag, runFrom, runAt}
 use Rattle.run.specs.Entry.{entryOf, entryAt}
 

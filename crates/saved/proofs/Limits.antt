@@ -12,7 +12,7 @@ use lib.Dec.{leb, eqb}
 use borrow.Author.Tests.{leb-true}
 use Rattle.laws.specs.Base.{both}
 use Rattle.laws.proofs.Order.{picked, both-true, lt-or-le}
-use Rattle.encoding.specs.Items.{items, lastItem, bytesOf}
+use Rattle.fields.specs.Items.{items, lastItem, bytesOf}
 use Rattle.message.specs.Message.{Bytes, TimeSpec, Accept, Exit, Restart, Client, acceptMsg, rejectMsg, exitMsg, restartMsg, alertMsg, ioBuf, winsizeEvent, suspendEvent, helloMsg}
 use Rattle.range.specs.Range.{upTo, dateFits, momentFits, acceptFits, reportFits, exitFits, restartFits, ioFits, windowFits, suspendFits}
 use Rattle.wire.specs.Read.{Reading, value, refused, clientMessage}

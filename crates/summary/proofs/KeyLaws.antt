@@ -10,8 +10,8 @@ use borrow.Author.Tests.{le-leb, ne-eqb, eqb-true}
 use Rattle.laws.specs.Base.{pick, part}
 use Rattle.laws.proofs.Order.{both-true}
 use Rattle.encoding.specs.Entry.{Holds}
-use Rattle.encoding.specs.Items.{bytes, itemOf, items}
-use Rattle.encoding.specs.declared.fields.Field.{Field}
+use Rattle.fields.specs.Items.{bytes, itemOf, items}
+use Rattle.fields.specs.declared.Field.{Field}
 use Rattle.message.specs.Message.{Bytes, Value, absent, numval, strval, strlistval, numlistval, Entry, entry}
 use Rattle.range.specs.Range.{isSet, entryFits}
 use Rattle.required.specs.Required.{sameBytes, keyBytes, stringOrNone}

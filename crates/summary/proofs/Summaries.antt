@@ -14,12 +14,12 @@ use Rattle.field.specs.declared.tag.Tag.{Tag}
 use Rattle.field.specs.declared.tag.Tag.the-variants as tag
 use Rattle.field.specs.declared.payload.Payload.{Payload}
 use Rattle.field.specs.declared.payload.Payload.the-variants as payload
-use Rattle.encoding.specs.Fields.{fieldOf, fieldFrom, fieldAt, onField, fieldsFrom, fieldsAt, among}
-use Rattle.encoding.specs.Items as item
-use Rattle.encoding.specs.Items.{Item, itemOf, items, lastFrom, lastItem, bytesOf, everyBytes}
-use Rattle.encoding.specs.declared.fields.Field.{Field}
-use Rattle.encoding.proofs.Steps.{PayloadRead, payload-at}
-use Rattle.encoding.proofs.Follow.{follow, none}
+use Rattle.fields.specs.Fields.{fieldOf, fieldFrom, fieldAt, onField, fieldsFrom, fieldsAt, among}
+use Rattle.fields.specs.Items as item
+use Rattle.fields.specs.Items.{Item, itemOf, items, lastFrom, lastItem, bytesOf, everyBytes}
+use Rattle.fields.specs.declared.Field.{Field}
+use Rattle.fields.proofs.Reach.{PayloadRead, payload-at}
+use Rattle.fields.proofs.Follow.{follow, none}
 use Rattle.encoding.proofs.Entries.{tagged}
 use Rattle.elements.specs.Elements.{itemsAt}
 use Rattle.message.specs.Signed.{signed, int32, bool}

@@ -14,7 +14,7 @@ ghost use Prim.Native.Nat.{ℕ, _<_, _≤_};
 ghost use lib.Dec.{eqb};
 ghost use lib.ListN.{length};
 ghost use Rattle.laws.specs.Base.{pick, part};
-ghost use Rattle.encoding.specs.Items.{items};
+ghost use Rattle.fields.specs.Items.{items};
 ghost use Rattle.message.specs.Message as m;
 ghost use Rattle.range.specs.Range.{dateFits, isSet};
 ghost use Rattle.required.specs.Required.{sameBytes, keyBytes};

@@ -13,8 +13,8 @@ use Rattle.field.specs.Schema.{kindOf, takes, schema}
 use Rattle.field.specs.Field.{tagFits, tagOf, payloadAt}
 use Rattle.encoding.specs.Check.{stepOf, stepFrom, stepAt}
 use Rattle.encoding.specs.Check.{checkAt, checkOf}
-use Rattle.encoding.specs.Fields.{fieldOf, fieldsAt, fieldsOf, among, later, lastOf}
-use Rattle.encoding.specs.Fields.{numberFrom, numberIn}
+use Rattle.fields.specs.Fields.{fieldOf, fieldsAt, fieldsOf, among, later, lastOf}
+use Rattle.fields.specs.Fields.{numberFrom, numberIn}
 use Rattle.walk.specs.Places.{timeRead, timeSpecOf}
 use Rattle.field.specs.declared.varint.Varint.the-variants.{Value, PastEnd, TooLong}
 use Rattle.field.specs.declared.payload.Payload.{Payload}
@@ -22,13 +22,13 @@ use Rattle.field.specs.declared.payload.Payload.the-variants as payload
 use Rattle.encoding.specs.declared.check.Step.{Step}
 use Rattle.encoding.specs.declared.check.Step.the-variants as step
 use Rattle.encoding.specs.declared.check.Checked.the-variants as checked
-use Rattle.encoding.specs.declared.fields.Field.{Field}
-use Rattle.encoding.specs.declared.fields.Field.the-variants as field
-use Rattle.encoding.specs.declared.fields.Last.{Last}
-use Rattle.encoding.specs.declared.fields.Last.the-variants as last
+use Rattle.fields.specs.declared.Field.{Field}
+use Rattle.fields.specs.declared.Field.the-variants as field
+use Rattle.fields.specs.declared.Last.{Last}
+use Rattle.fields.specs.declared.Last.the-variants as last
 use Rattle.walk.specs.declared.time.TimeRead.the-variants as timeread
 use Rattle.encoding.proofs.Checks.{at-end}
-use Rattle.encoding.proofs.Follow.{none}
+use Rattle.fields.proofs.Follow.{none}
 use Rattle.encoding.proofs.Walk.{alone}
 use Rattle.field.proofs.Rows.{kinds}
 use Rattle.encoding.proofs.Walk.{Leads, further, checks-on, keeps-on, ends-at, outside, same-number, number-leads, number-past, number-long, Rest, rest-leads}

@@ -7,9 +7,9 @@ use lib.Dec.{eqb}
 use Rattle.laws.specs.Base.{part}
 use Rattle.field.specs.Schema.{kindOf}
 use Rattle.encoding.specs.Check.{checkOf}
-use Rattle.encoding.specs.Fields.{numberIn, lastIn, startFrom, endFrom}
-use Rattle.encoding.specs.declared.fields.Last.{Last}
-use Rattle.encoding.specs.declared.fields.Last.the-variants as last
+use Rattle.fields.specs.Fields.{numberIn, lastIn, startFrom, endFrom}
+use Rattle.fields.specs.declared.Last.{Last}
+use Rattle.fields.specs.declared.Last.the-variants as last
 use Rattle.encoding.specs.declared.check.Checked.{Checked}
 use Rattle.encoding.specs.declared.check.Checked.the-variants as checked
 use Rattle.walk.specs.declared.time.Time.{Time}

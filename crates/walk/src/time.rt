@@ -1,11 +1,11 @@
 // TimeSpec.
 use encoding::check::Step;
 use encoding::check::rest_at;
-use encoding::fields::Last;
-use encoding::fields::last_in;
-use encoding::fields::number_in;
 use field::varint::Varint;
 use field::varint::varint_at;
+use fields::Last;
+use fields::last_in;
+use fields::number_in;
 ghost use mathlib.Core.Path.{_≡_};
 ghost use Rattle.walk.specs.Places.{timeIn, timeSpecOf};
 

@@ -6,9 +6,9 @@ use Rattle.field.specs.Schema.{schema, kindOf, takes}
 use Rattle.field.specs.Field.{tagFits, tagOf, tagAt, fixedAt, numberOf, partOf, payloadAt}
 use Rattle.encoding.specs.Check.{stepOf, stepFrom, stepAt}
 use Rattle.encoding.specs.Check.{before, onStep, checkFrom, checkAt}
-use Rattle.encoding.specs.Fields.{fieldOf, fieldFrom, fieldAt, onField, fieldsFrom, fieldsAt, among}
-use Rattle.encoding.specs.Items as i
-use Rattle.encoding.specs.Items.{items, lastFrom, bytesOf}
+use Rattle.fields.specs.Fields.{fieldOf, fieldFrom, fieldAt, onField, fieldsFrom, fieldsAt, among}
+use Rattle.fields.specs.Items as i
+use Rattle.fields.specs.Items.{items, lastFrom, bytesOf}
 use Rattle.message.specs.Signed.{signed, int64, int32}
 use Rattle.message.specs.Message.{timeSpec, timeField, timed, clientMember, serverMember}
 use Rattle.wire.specs.Read.{after, member, clientMessage, serverMessage}

@@ -11,15 +11,15 @@ use Rattle.laws.specs.Base.{pick, both, part}
 use Rattle.laws.proofs.Parts.{part-part, length-part}
 use Rattle.field.specs.Schema.{schema, kindOf}
 use Rattle.encoding.specs.Check.{checkOf}
-use Rattle.encoding.specs.Fields.{lastIn, startFrom, endFrom}
-use Rattle.encoding.specs.Items.{Item, items, lastItem}
+use Rattle.fields.specs.Fields.{lastIn, startFrom, endFrom}
+use Rattle.fields.specs.Items.{Item, items, lastItem}
 use Rattle.encoding.specs.declared.check.Checked.{Checked}
 use Rattle.encoding.specs.declared.check.Checked.the-variants as checked
-use Rattle.encoding.specs.declared.fields.Last.{Last}
-use Rattle.encoding.specs.declared.fields.Last.the-variants as last
+use Rattle.fields.specs.declared.Last.{Last}
+use Rattle.fields.specs.declared.Last.the-variants as last
 use Rattle.field.proofs.Rows.{kinds}
-use Rattle.encoding.proofs.Follow.{LastLies, last-in-lies, span-lies}
-use Rattle.encoding.proofs.Items.{contentOf, last-means, bytes-means}
+use Rattle.fields.proofs.Follow.{LastLies, last-in-lies, span-lies}
+use Rattle.fields.proofs.Items.{contentOf, last-means, bytes-means}
 use Rattle.walk.specs.Places.{timeIn, ioRead, ioBufferOf, memberRead, clientFrom, clientRead, clientOf}
 use Rattle.walk.specs.declared.time.Time.{Time}
 use Rattle.walk.specs.declared.io.IoRead.the-variants as ioread

@@ -8,7 +8,7 @@ use Rattle.frame.specs.Frame.{cutOf}
 use Rattle.frame.specs.declared.Cut.{Cut}
 use Rattle.frame.specs.declared.Cut.the-variants as cut
 use Rattle.field.specs.Varint.{varintAt}
-use Rattle.encoding.specs.Items.{items}
+use Rattle.fields.specs.Items.{items}
 use Rattle.field.specs.declared.varint.Varint.{Varint}
 use Rattle.field.specs.declared.varint.Varint.the-variants.{Value, PastEnd, TooLong}
 use Rattle.message.specs.Signed.{int64, int32}

@@ -2,7 +2,7 @@
 use Prim.Native.Nat.{ℕ}
 use mathlib.Core.List.{List}
 use Rattle.laws.specs.Base.{part}
-use Rattle.encoding.specs.Items.{items}
+use Rattle.fields.specs.Items.{items}
 use Rattle.walk.specs.declared.client.ClientRead.{ClientRead}
 use Rattle.walk.specs.declared.client.ClientRead.the-variants as client
 use Rattle.message.specs.Message.{Client, Server, clientMember, serverMember, ioBuf}

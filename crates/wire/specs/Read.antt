@@ -6,7 +6,7 @@ use lib.Dec.{eqb}
 use Rattle.laws.specs.Base.{pick}
 use Rattle.field.specs.Schema.{ClientMessage, ServerMessage}
 use Rattle.encoding.specs.Check.{checkOf}
-use Rattle.encoding.specs.Items.{Item, none, number, bytes, items, lastItem}
+use Rattle.fields.specs.Items.{Item, none, number, bytes, items, lastItem}
 use Rattle.encoding.specs.declared.check.Checked.{Checked}
 use Rattle.encoding.specs.declared.check.Checked.the-variants as checked
 use Rattle.message.specs.Message.{Client, Server, clientMember, serverMember}

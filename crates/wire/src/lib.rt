@@ -2,13 +2,13 @@
 // `message` for the members' values and `range` for their ranges, is what a session builds on.
 use encoding::check::Checked;
 use encoding::check::check;
-use encoding::fields::Last;
-use encoding::fields::last_in;
+use fields::Last;
+use fields::last_in;
 use plain::client;
 use range::in_range;
 use walk::client::ClientRead;
 ghost use mathlib.Core.Path.{_≡_};
-ghost use Rattle.encoding.specs.Items.{items, lastItem};
+ghost use Rattle.fields.specs.Items.{items, lastItem};
 ghost use Rattle.walk.specs.Places.{clientOf};
 ghost use Rattle.wire.specs.Read.{isAbsent, noMember, decodeNumber, readNumber, clientMessage, serverMessage};
 ghost use Rattle.wire.specs.Places.{clientValue, serverValue};

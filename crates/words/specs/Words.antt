@@ -5,7 +5,7 @@ use Prim.Native.String.{String, [] as nothing, _∷_ as _before_}
 use mathlib.Core.List.{List, [], _∷_, _++_}
 use lib.Dec.{ltb, eqb}
 use Rattle.laws.specs.Base.{pick}
-use Rattle.encoding.specs.Fields.{lastIn, memberFrom}
+use Rattle.fields.specs.Fields.{lastIn, memberFrom}
 use Rattle.session.specs.declared.State.{State}
 use Rattle.session.specs.declared.State.the-variants.{New, Greeted, Logging, EventsOnly, Closed}
 

@@ -1,7 +1,7 @@
 // The words of a line: numbers in decimal, and the names of members and states. These functions are for the lines above, which
 // have seen to the room before they put anything: `put_..` requires it, and answers the place after what it put.
-use encoding::fields::Last;
-use encoding::fields::last_in;
+use fields::Last;
+use fields::last_in;
 use pieces::part::put_raw;
 use session::State;
 ghost use mathlib.Core.Path.{_≡_};

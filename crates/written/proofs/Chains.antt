@@ -10,13 +10,13 @@ use Rattle.laws.specs.Base.{part}
 use Rattle.laws.proofs.Order.{lt-or-le}
 use Rattle.encoding.specs.Check.{stepAt}
 use Rattle.encoding.specs.Check.{before, onStep, checkAt, checkOf}
-use Rattle.encoding.specs.Fields.{fieldAt}
+use Rattle.fields.specs.Fields.{fieldAt}
 use Rattle.encoding.specs.declared.check.Step.{Step}
 use Rattle.encoding.specs.declared.check.Step.the-variants as step
 use Rattle.encoding.specs.declared.check.Checked.{Checked}
 use Rattle.encoding.specs.declared.check.Checked.the-variants as checked
-use Rattle.encoding.specs.declared.fields.Field.{Field}
-use Rattle.encoding.specs.declared.fields.Field.the-variants as field
+use Rattle.fields.specs.declared.Field.{Field}
+use Rattle.fields.specs.declared.Field.the-variants as field
 use Rattle.encoding.proofs.Steps.{StepRead, step-at}
 use Rattle.encoding.proofs.Checks.{next, at-end}
 use Rattle.written.proofs.Moves.{Lies, movedStep, TakenStep, TakenField, step-moves, part-moves}

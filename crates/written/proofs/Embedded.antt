@@ -8,9 +8,9 @@ use lib.ListN.{length, length-append}
 use lib.Dec.{ltb, leb, eqb}
 use Rattle.laws.specs.Base.{pick}
 use Rattle.field.specs.Schema.{schema, kindOf, takes}
-use Rattle.encoding.specs.Fields.{among}
-use Rattle.encoding.specs.Items as i
-use Rattle.encoding.specs.Items.{Item, none, items, lastFrom, numberOf, bytesOf, everyBytes}
+use Rattle.fields.specs.Fields.{among}
+use Rattle.fields.specs.Items as i
+use Rattle.fields.specs.Items.{Item, none, items, lastFrom, numberOf, bytesOf, everyBytes}
 use Rattle.encoding.specs.declared.check.Checked.the-variants as checked
 use Rattle.elements.specs.Elements.{numbersOf}
 use Rattle.message.specs.Signed.{int64, int32, bool}

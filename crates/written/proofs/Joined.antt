@@ -7,12 +7,12 @@ use mathlib.Core.Path.{_≡_, refl, sym, subst, ap, _∙_}
 use mathlib.Core.List.{List, [], _∷_, _++_, map, append-nil}
 use lib.ListN.{length, length-append}
 use Rattle.encoding.specs.Check.{checkOf}
-use Rattle.encoding.specs.Fields.{fieldAt, onField, fieldsAt}
-use Rattle.encoding.specs.Items.{Item, bytes, itemOf, items}
+use Rattle.fields.specs.Fields.{fieldAt, onField, fieldsAt}
+use Rattle.fields.specs.Items.{Item, bytes, itemOf, items}
 use Rattle.encoding.specs.declared.check.Checked.the-variants as checked
-use Rattle.encoding.specs.declared.fields.Field.{Field}
-use Rattle.encoding.specs.declared.fields.Field.the-variants as field
-use Rattle.encoding.proofs.Follow.{FieldRead, field-read, follow, none}
+use Rattle.fields.specs.declared.Field.{Field}
+use Rattle.fields.specs.declared.Field.the-variants as field
+use Rattle.fields.proofs.Follow.{FieldRead, field-read, follow, none}
 use Rattle.elements.specs.Elements.{itemsAt}
 use Rattle.written.proofs.Moves.{Lies, lies-first, lies-second, movedField, TakenField, part-moves, field-moves}
 use Rattle.written.proofs.Chains.{Chain, done, more, moved, Stepped, chain-of, passes, stepped-moves, endOf, FieldTo}

@@ -17,7 +17,7 @@ use Rattle.field.specs.Varint.{above, varintFrom, varintAt}
 use Rattle.field.specs.Schema.{kindOf, takes}
 use Rattle.field.specs.Field.{tagFits, tagOf, tagAt, fixedAt, numberOf, partOf, payloadAt}
 use Rattle.encoding.specs.Check.{stepOf, stepFrom, stepAt}
-use Rattle.encoding.specs.Fields.{fieldOf, fieldFrom, fieldAt}
+use Rattle.fields.specs.Fields.{fieldOf, fieldFrom, fieldAt}
 use Rattle.field.specs.declared.varint.Varint.{Varint}
 use Rattle.field.specs.declared.varint.Varint.the-variants.{Value, PastEnd, TooLong}
 use Rattle.field.specs.declared.tag.Tag.{Tag}
@@ -26,8 +26,8 @@ use Rattle.field.specs.declared.payload.Payload.{Payload}
 use Rattle.field.specs.declared.payload.Payload.the-variants as payload
 use Rattle.encoding.specs.declared.check.Step.{Step}
 use Rattle.encoding.specs.declared.check.Step.the-variants as step
-use Rattle.encoding.specs.declared.fields.Field.{Field}
-use Rattle.encoding.specs.declared.fields.Field.the-variants as field
+use Rattle.fields.specs.declared.Field.{Field}
+use Rattle.fields.specs.declared.Field.the-variants as field
 use Rattle.field.proofs.Varints.{past, last-fits, last-long, ends, goes-on}
 
 -- s lies in S from place p on

@@ -14,12 +14,12 @@ use Rattle.field.specs.Varint.{varintFrom, varintAt}
 use Rattle.field.specs.Field.{numberOf}
 use Rattle.encoding.specs.Check.{stepOf, stepAt}
 use Rattle.encoding.specs.Check.{checkOf}
-use Rattle.encoding.specs.Items as i
+use Rattle.fields.specs.Items as i
 use Rattle.field.specs.declared.varint.Varint.{Varint}
 use Rattle.field.specs.declared.varint.Varint.the-variants.{Value}
 use Rattle.encoding.specs.declared.check.Step.the-variants as step
 use Rattle.encoding.specs.declared.check.Checked.the-variants as checked
-use Rattle.encoding.proofs.Steps.{Read, read}
+use Rattle.fields.proofs.Reach.{Read, read}
 use Rattle.encoding.proofs.Checks.{at-end}
 use Rattle.elements.specs.Elements.{onVarint, varintsFrom, varintsAt, varints, numbersOf}
 use Rattle.elements.proofs.Packed as p

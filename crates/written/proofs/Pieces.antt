@@ -9,11 +9,11 @@ use lib.Dec.{leb, eqb}
 use Rattle.laws.specs.Base.{pick}
 use Rattle.field.specs.Schema.{kindOf, takes}
 use Rattle.encoding.specs.Check.{checkOf}
-use Rattle.encoding.specs.Items as i
-use Rattle.encoding.specs.Items.{Item, itemOf, items}
+use Rattle.fields.specs.Items as i
+use Rattle.fields.specs.Items.{Item, itemOf, items}
 use Rattle.encoding.specs.declared.check.Checked.the-variants as checked
 use Rattle.encoding.proofs.Checks.{at-end}
-use Rattle.encoding.proofs.Follow.{none}
+use Rattle.fields.proofs.Follow.{none}
 use Rattle.written.specs.Pieces.{Piece, number, some, bytes, text, list, run, varint, head, elements, encode, encodeAll}
 use Rattle.written.specs.RoundTrip.{pieceItems, itemsOf, Numbered, Writable, AllWritable, Held, AllHeld, Suits, AllSuit}
 use Rattle.written.proofs.Chains.{done}

@@ -14,7 +14,7 @@ use Rattle.field.specs.Schema.{kindOf, takes, InfoMessage}
 use Rattle.field.specs.Field.{tagFits, tagOf, tagAt, fixedAt, numberOf, partOf, payloadAt}
 use Rattle.encoding.specs.Check.{stepOf, stepFrom, stepAt}
 use Rattle.encoding.specs.Check.{before, onStep, checkFrom, checkAt, checkOf}
-use Rattle.encoding.specs.Items.{Item, items, everyBytes}
+use Rattle.fields.specs.Items.{Item, items, everyBytes}
 use Rattle.field.specs.declared.varint.Varint.{Varint}
 use Rattle.field.specs.declared.varint.Varint.the-variants.{Value, PastEnd, TooLong}
 use Rattle.field.specs.declared.tag.Tag.{Tag}

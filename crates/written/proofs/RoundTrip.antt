@@ -11,9 +11,9 @@ use Rattle.laws.specs.Base.{pick, both}
 use Rattle.laws.proofs.Table.{below}
 use Rattle.field.specs.Schema.{schema, kindOf, takes}
 use Rattle.encoding.specs.Check.{checkOf}
-use Rattle.encoding.specs.Fields.{among}
-use Rattle.encoding.specs.Items as i
-use Rattle.encoding.specs.Items.{Item, items, lastItem, everyBytes}
+use Rattle.fields.specs.Fields.{among}
+use Rattle.fields.specs.Items as i
+use Rattle.fields.specs.Items.{Item, items, lastItem, everyBytes}
 use Rattle.encoding.specs.declared.check.Checked.the-variants as checked
 use Rattle.message.specs.Message as m
 use Rattle.message.specs.Message.{Bytes, Client, Server, clientMember, serverMember}

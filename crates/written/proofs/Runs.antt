@@ -16,8 +16,8 @@ use Rattle.field.specs.Schema.{kindOf, takes, message, InfoMessage}
 use Rattle.field.specs.Field.{tagAt, partOf, payloadAt}
 use Rattle.encoding.specs.Check.{stepOf, stepFrom, stepAt}
 use Rattle.encoding.specs.Check.{before, checkOf}
-use Rattle.encoding.specs.Fields.{among, fieldOf, fieldFrom, fieldAt, onField, fieldsAt}
-use Rattle.encoding.specs.Items.{Item, bytes, itemOf, items, lastFrom}
+use Rattle.fields.specs.Fields.{among, fieldOf, fieldFrom, fieldAt, onField, fieldsAt}
+use Rattle.fields.specs.Items.{Item, bytes, itemOf, items, lastFrom}
 use Rattle.field.specs.declared.varint.Varint.{Varint}
 use Rattle.field.specs.declared.varint.Varint.the-variants.{Value, PastEnd, TooLong}
 use Rattle.field.specs.declared.tag.Tag.{Tag}
@@ -27,10 +27,10 @@ use Rattle.field.specs.declared.payload.Payload.the-variants as payload
 use Rattle.encoding.specs.declared.check.Step.the-variants as step
 use Rattle.encoding.specs.declared.check.Checked.{Checked}
 use Rattle.encoding.specs.declared.check.Checked.the-variants as checked
-use Rattle.encoding.specs.declared.fields.Field.{Field}
-use Rattle.encoding.specs.declared.fields.Field.the-variants as field
-use Rattle.encoding.proofs.Steps.{TagRead, tag-at, PayloadRead, payload-at}
-use Rattle.encoding.proofs.Follow.{follow, none}
+use Rattle.fields.specs.declared.Field.{Field}
+use Rattle.fields.specs.declared.Field.the-variants as field
+use Rattle.fields.proofs.Reach.{TagRead, tag-at, PayloadRead, payload-at}
+use Rattle.fields.proofs.Follow.{follow, none}
 use Rattle.elements.specs.Elements.{itemsAt}
 use Rattle.written.specs.Pieces.{head}
 use Rattle.written.specs.Run.{onEntry, onTag, runFrom, runAt}

@@ -17,19 +17,19 @@ use Rattle.field.specs.Schema.{kindOf, takes}
 use Rattle.field.specs.Field.{tagFits, tagOf, tagAt, numberOf, partOf, payloadAt}
 use Rattle.encoding.specs.Check.{stepOf, stepFrom, stepAt}
 use Rattle.encoding.specs.Check.{checkOf}
-use Rattle.encoding.specs.Fields.{fieldOf, fieldFrom, fieldAt, onField, fieldsAt}
-use Rattle.encoding.specs.Items.{number, bytes, itemOf, items}
+use Rattle.fields.specs.Fields.{fieldOf, fieldFrom, fieldAt, onField, fieldsAt}
+use Rattle.fields.specs.Items.{number, bytes, itemOf, items}
 use Rattle.field.specs.declared.varint.Varint.the-variants.{Value}
 use Rattle.field.specs.declared.tag.Tag.the-variants as tag
 use Rattle.field.specs.declared.payload.Payload.{Payload}
 use Rattle.field.specs.declared.payload.Payload.the-variants as payload
 use Rattle.encoding.specs.declared.check.Step.the-variants as step
 use Rattle.encoding.specs.declared.check.Checked.the-variants as checked
-use Rattle.encoding.specs.declared.fields.Field.{Field}
-use Rattle.encoding.specs.declared.fields.Field.the-variants as field
+use Rattle.fields.specs.declared.Field.{Field}
+use Rattle.fields.specs.declared.Field.the-variants as field
 use Rattle.field.proofs.Varints.{last-fits, ends, goes-on, lim}
-use Rattle.encoding.proofs.Steps.{TagRead, tag-at}
-use Rattle.encoding.proofs.Follow.{follow, none}
+use Rattle.fields.proofs.Reach.{TagRead, tag-at}
+use Rattle.fields.proofs.Follow.{follow, none}
 use Rattle.written.specs.Pieces as w
 use Rattle.written.specs.Pieces.{varint, head}
 use Rattle.written.proofs.Moves.{lies-first, lies-second, TakenField, varint-moves, tag-moves}

@@ -8,9 +8,9 @@ use lib.ListN.{length}
 use lib.Dec.{eqb}
 use borrow.Author.Tests.{eqb-true}
 use Rattle.laws.specs.Base.{pick}
-use Rattle.encoding.specs.Fields.{among}
-use Rattle.encoding.specs.Items as i
-use Rattle.encoding.specs.Items.{Item, none, items, lastFrom, numberOf, bytesOf, everyBytes}
+use Rattle.fields.specs.Fields.{among}
+use Rattle.fields.specs.Items as i
+use Rattle.fields.specs.Items.{Item, none, items, lastFrom, numberOf, bytesOf, everyBytes}
 use Rattle.written.specs.Pieces.{Piece, number, some, bytes, text, list, run, encodeAll}
 use Rattle.written.specs.RoundTrip.{pieceItems, itemsOf, AllWritable}
 use Rattle.written.proofs.Pieces.{fields-back}

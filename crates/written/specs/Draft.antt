@@ -8,7 +8,7 @@ use lib.IntN.{ℤ}
 use lib.ListN.{length}
 use lib.Dec.{ltb, leb, eqb}
 use Rattle.laws.specs.Base.{pick, both, part}
-use Rattle.encoding.specs.Items.{items}
+use Rattle.fields.specs.Items.{items}
 use Rattle.message.specs.Signed.{int64, int32}
 use Rattle.message.specs.Message as m
 use Rattle.message.specs.Message.{Bytes, TimeSpec, Client, acceptMsg, rejectMsg, exitMsg, restartMsg, alertMsg, ioBuf, winsizeEvent, suspendEvent, helloMsg, Server, hello, commitPoint, logId, error, abort}

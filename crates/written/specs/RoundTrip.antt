@@ -11,8 +11,8 @@ use Rattle.frame.specs.Frame.{largest, cutOf}
 use Rattle.frame.specs.declared.Cut.the-variants as cut
 use Rattle.field.specs.Schema.{kindOf, takes, message, ClientMessage, TimeSpec, InfoMessage, StringList, NumberList, ServerHello}
 use Rattle.encoding.specs.Check.{checkOf}
-use Rattle.encoding.specs.Items as i
-use Rattle.encoding.specs.Items.{Item, items}
+use Rattle.fields.specs.Items as i
+use Rattle.fields.specs.Items.{Item, items}
 use Rattle.encoding.specs.declared.check.Checked.the-variants as checked
 use Rattle.message.specs.Signed.{int64}
 use Rattle.message.specs.Message as m

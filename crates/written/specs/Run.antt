@@ -10,7 +10,7 @@ use Rattle.laws.specs.Base.{pick, part}
 use Rattle.field.specs.Schema.{InfoMessage}
 use Rattle.field.specs.Field.{tagAt, payloadAt}
 use Rattle.encoding.specs.Check.{before, checkOf}
-use Rattle.encoding.specs.Items.{items}
+use Rattle.fields.specs.Items.{items}
 use Rattle.field.specs.declared.tag.Tag.{Tag}
 use Rattle.field.specs.declared.tag.Tag.the-variants as tag
 use Rattle.field.specs.declared.payload.Payload.{Payload}

@@ -5,8 +5,8 @@ use native.Mathlib.Omega.{arith}
 use mathlib.Core.Path.{_≡_, refl, sym, _∙_}
 use Prim.Native.Nat.{_-_}
 use lib.ListN.{length}
-use Rattle.encoding.specs.Fields.{onField}
-use Rattle.encoding.specs.declared.fields.Field.{Field}
+use Rattle.fields.specs.Fields.{onField}
+use Rattle.fields.specs.declared.Field.{Field}
 use Rattle.elements.specs.Elements.{itemsAt, onVarint, numbersOf, told}
 use Rattle.elements.proofs.Numbers.{Leaves, at-field, at-end, at-part, part-value, number-value}
 use Rattle.elements.proofs.number_from.Statement.{statement}

@@ -1,6 +1,6 @@
 use Rattle.message.specs.Message.{entry}
 use Rattle.message.specs.Places.{entryValue}
-use Rattle.encoding.proofs.Items.{bytes-means}
+use Rattle.fields.proofs.Items.{bytes-means}
 use borrow.Author.Needs.{needs}
 use Rattle.message.proofs.entry_in.Statement.{statement}
 use Rattle.message.proofs.entry_in.Tie as tie

@@ -1,8 +1,8 @@
 use Rattle.message.specs.Message.{exit}
 use Rattle.message.specs.Places.{exitValue}
 use Rattle.message.proofs.Meaning.{time-means}
-use Rattle.encoding.proofs.Follow.{span-lies}
-use Rattle.encoding.proofs.Items.{number-means, bytes-means}
+use Rattle.fields.proofs.Follow.{span-lies}
+use Rattle.fields.proofs.Items.{number-means, bytes-means}
 use borrow.Author.Needs.{needs}
 use Rattle.message.proofs.exit_in.Statement.{statement}
 use Rattle.message.proofs.exit_in.Tie as tie

@@ -1,5 +1,5 @@
 use Rattle.message.specs.Signed.{bool}
-use Rattle.encoding.proofs.Items.{number-means}
+use Rattle.fields.proofs.Items.{number-means}
 use borrow.Author.Needs.{needs}
 use Rattle.message.proofs.flag_in.Statement.{statement}
 use Rattle.message.proofs.flag_in.Tie as tie

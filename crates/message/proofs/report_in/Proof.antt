@@ -1,7 +1,7 @@
 use Rattle.message.specs.Message.{report}
 use Rattle.message.specs.Places.{reportValue}
 use Rattle.message.proofs.Meaning.{time-means}
-use Rattle.encoding.proofs.Items.{bytes-means}
+use Rattle.fields.proofs.Items.{bytes-means}
 use borrow.Author.Needs.{needs}
 use Rattle.message.proofs.report_in.Statement.{statement}
 use Rattle.message.proofs.report_in.Tie as tie

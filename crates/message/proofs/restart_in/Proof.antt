@@ -1,7 +1,7 @@
 use Rattle.message.specs.Message.{restart}
 use Rattle.message.specs.Places.{restartValue}
 use Rattle.message.proofs.Meaning.{time-means}
-use Rattle.encoding.proofs.Items.{bytes-means}
+use Rattle.fields.proofs.Items.{bytes-means}
 use borrow.Author.Needs.{needs}
 use Rattle.message.proofs.restart_in.Statement.{statement}
 use Rattle.message.proofs.restart_in.Tie as tie

@@ -1,6 +1,6 @@
 use Rattle.message.specs.Message.{serverHello}
 use Rattle.message.specs.Places.{serverHelloValue}
-use Rattle.encoding.proofs.Items.{bytes-means}
+use Rattle.fields.proofs.Items.{bytes-means}
 use borrow.Author.Needs.{needs}
 use Rattle.message.proofs.server_hello_in.Statement.{statement}
 use Rattle.message.proofs.server_hello_in.Tie as tie

@@ -1,6 +1,6 @@
 use Rattle.message.specs.Message.{timeSpec}
 use Rattle.message.specs.Places.{timeValue}
-use Rattle.encoding.proofs.Items.{number-means}
+use Rattle.fields.proofs.Items.{number-means}
 use borrow.Author.Needs.{needs}
 use Rattle.message.proofs.time_spec_in.Statement.{statement}
 use Rattle.message.proofs.time_spec_in.Tie as tie

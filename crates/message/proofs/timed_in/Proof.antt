@@ -1,8 +1,8 @@
 use Rattle.message.specs.Message.{timed}
 use Rattle.message.specs.Places.{timedValue}
 use Rattle.message.proofs.Meaning.{time-means}
-use Rattle.encoding.proofs.Follow.{span-lies}
-use Rattle.encoding.proofs.Items.{bytes-means}
+use Rattle.fields.proofs.Follow.{span-lies}
+use Rattle.fields.proofs.Items.{bytes-means}
 use borrow.Author.Needs.{needs}
 use Rattle.message.proofs.timed_in.Statement.{statement}
 use Rattle.message.proofs.timed_in.Tie as tie

@@ -2,7 +2,7 @@ use mathlib.Core.Path.{sym, _∙_}
 use borrow.Author.Tests.{eq-eqb, ne-eqb}
 use Rattle.message.specs.Message.{valueOf}
 use Rattle.message.specs.Places.{valueAt}
-use Rattle.encoding.proofs.Items.{last-means}
+use Rattle.fields.proofs.Items.{last-means}
 use borrow.Author.Needs.{needs}
 use Rattle.message.proofs.value_in.Statement.{statement}
 use Rattle.message.proofs.value_in.Tie as tie

@@ -1,7 +1,7 @@
 use Rattle.message.specs.Message.{windowSize}
 use Rattle.message.specs.Places.{windowValue}
 use Rattle.message.proofs.Meaning.{time-means}
-use Rattle.encoding.proofs.Items.{number-means}
+use Rattle.fields.proofs.Items.{number-means}
 use borrow.Author.Needs.{needs}
 use Rattle.message.proofs.window_size_in.Statement.{statement}
 use Rattle.message.proofs.window_size_in.Tie as tie

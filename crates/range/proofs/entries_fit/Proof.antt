@@ -2,7 +2,7 @@ use Rattle.range.specs.Range.{entriesFit}
 use Rattle.message.specs.Message.{Bytes, entry, entries}
 use Rattle.elements.proofs.Elements.{all-elements, found-none, found-part, found-lies}
 use Rattle.elements.specs.Elements.{elementsAt}
-use Rattle.encoding.specs.Items.{items}
+use Rattle.fields.specs.Items.{items}
 use lib.ListN.{length}
 use mathlib.Core.List.{map}
 use Prim.Native.Nat.{_-_}

@@ -1,6 +1,6 @@
-use Rattle.encoding.proofs.Follow.{span-lies}
-use Rattle.encoding.proofs.Items.{bytes-means}
-use Rattle.encoding.specs.Fields.{lastIn, startFrom, endFrom}
+use Rattle.fields.proofs.Follow.{span-lies}
+use Rattle.fields.proofs.Items.{bytes-means}
+use Rattle.fields.specs.Fields.{lastIn, startFrom, endFrom}
 use Rattle.laws.proofs.Parts.{length-part}
 use lib.ListN.{length}
 use native.Mathlib.Omega.{arith}

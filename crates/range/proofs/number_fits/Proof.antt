@@ -1,5 +1,5 @@
 use Rattle.range.proofs.Signs.{up-to}
-use Rattle.encoding.proofs.Items.{number-means}
+use Rattle.fields.proofs.Items.{number-means}
 use Rattle.message.specs.Signed.{int32}
 use Prim.Native.Nat.{_%_}
 use mathlib.Core.Path.{sym, _∙_}

@@ -1,4 +1,4 @@
-use Rattle.encoding.specs.Fields.{memberFrom}
+use Rattle.fields.specs.Fields.{memberFrom}
 use mathlib.Core.Path.{sym, ap, _∙_}
 use borrow.Author.Needs.{needs}
 use Rattle.reading.proofs.member_among.Statement.{statement}

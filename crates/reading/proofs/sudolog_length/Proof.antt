@@ -1,5 +1,5 @@
 use Prim.Native.Nat.{_-_}
-use Rattle.encoding.specs.declared.fields.Span.{Span}
+use Rattle.fields.specs.declared.Span.{Span}
 use mathlib.Core.Path.{sym, ap, _∙_}
 use borrow.Author.Needs.{needs}
 use Rattle.reading.proofs.sudolog_length.Statement.{statement}

@@ -1,5 +1,5 @@
 use mathlib.Core.Path.{sym, ap, _∙_}
-use Rattle.encoding.specs.declared.fields.Span.{Span}
+use Rattle.fields.specs.declared.Span.{Span}
 use borrow.Author.Needs.{needs}
 use Rattle.reading.proofs.sudolog_offset.Statement.{statement}
 use Rattle.reading.proofs.sudolog_offset.Tie as tie

@@ -3,8 +3,8 @@ use Rattle.message.specs.Message.{Bytes}
 use native.Mathlib.Omega.{arith}
 use mathlib.Core.Path.{_≡_, refl, sym, ap, _∙_}
 use Rattle.message.specs.Message.{entry}
-use Rattle.encoding.proofs.Follow.{span-lies}
-use Rattle.encoding.proofs.Items.{bytes-means}
+use Rattle.fields.proofs.Follow.{span-lies}
+use Rattle.fields.proofs.Items.{bytes-means}
 use borrow.Author.Needs.{needs}
 use Rattle.required.proofs.has_key.Statement.{statement}
 use Rattle.required.proofs.has_key.Tie as tie

@@ -3,7 +3,7 @@ use Prim.Native.Nat.{_-_}
 use native.Mathlib.Omega.{arith}
 use mathlib.Core.Path.{_≡_, refl, sym, ap, _∙_}
 use lib.ListN.{length}
-use Rattle.encoding.specs.Items.{items}
+use Rattle.fields.specs.Items.{items}
 use Rattle.message.specs.Message.{entries}
 use Rattle.elements.proofs.Elements.{found-lies}
 use Rattle.required.specs.Required.{lastValue, stringOrNone}

@@ -3,7 +3,7 @@ use native.Mathlib.Omega.{arith}
 use mathlib.Core.Path.{_≡_, refl, sym, ap, _∙_}
 use mathlib.Core.Bool.{true, false}
 use lib.ListN.{length}
-use Rattle.encoding.specs.Items.{items}
+use Rattle.fields.specs.Items.{items}
 use Rattle.message.specs.Message.{entries}
 use Rattle.elements.proofs.Elements.{found-lies}
 use Rattle.required.specs.Required.{has, missingFrom, missing}

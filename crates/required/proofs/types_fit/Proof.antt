@@ -1,7 +1,7 @@
 use Prim.Native.Nat.{_-_, _≤_}
 use native.Mathlib.Omega.{arith}
 use mathlib.Core.Path.{_≡_, refl, sym, _∙_}
-use Rattle.encoding.specs.Items.{items}
+use Rattle.fields.specs.Items.{items}
 use Rattle.message.specs.Message.{entries}
 use Rattle.required.specs.Required.{typesFrom, typesFit}
 use Rattle.required.proofs.Laws.{type-fits, type-other, types-done}

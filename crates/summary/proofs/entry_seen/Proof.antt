@@ -1,7 +1,7 @@
 use mathlib.Core.Path.{refl, subst}
 use Rattle.encoding.specs.Entry.{Formed}
-use Rattle.encoding.specs.Fields.{among}
-use Rattle.encoding.specs.Items.{lastFrom, bytesOf}
+use Rattle.fields.specs.Fields.{among}
+use Rattle.fields.specs.Items.{lastFrom, bytesOf}
 use Rattle.message.specs.Message.{entry, valueOf}
 use Rattle.range.specs.Range.{isSet}
 use Rattle.summary.specs.Summary.{isString, EntrySeen}

@@ -1,4 +1,4 @@
-use Rattle.encoding.specs.Fields.{memberFrom}
+use Rattle.fields.specs.Fields.{memberFrom}
 use Rattle.words.specs.Words.{memberOf}
 use mathlib.Core.Path.{sym, _∙_}
 use borrow.Author.Needs.{needs}

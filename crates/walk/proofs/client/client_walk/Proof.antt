@@ -8,7 +8,7 @@ use lib.ListN.{length}
 use Rattle.field.specs.Schema.{kindOf, takes}
 use Rattle.laws.specs.Base.{part}
 use Rattle.encoding.specs.Check.{checkOf}
-use Rattle.encoding.specs.Fields.{lastIn}
+use Rattle.fields.specs.Fields.{lastIn}
 use Rattle.walk.specs.Places.{timeIn}
 use Rattle.laws.proofs.Parts.{length-part}
 use Rattle.encoding.proofs.Checks.{Placed, placed}

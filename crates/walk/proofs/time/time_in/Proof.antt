@@ -1,8 +1,8 @@
 use native.Mathlib.Omega.{arith}
 use mathlib.Core.Path.{sym, subst, _∙_}
 use Rattle.walk.specs.Places.{timeFrom, timeOf}
-use Rattle.encoding.specs.declared.fields.Last.the-variants as last
-use Rattle.encoding.proofs.Follow.{LastLies, last-in-lies}
+use Rattle.fields.specs.declared.Last.the-variants as last
+use Rattle.fields.proofs.Follow.{LastLies, last-in-lies}
 use borrow.Author.Needs.{needs}
 use Rattle.walk.proofs.time.time_in.Statement.{statement}
 use Rattle.walk.proofs.time.time_in.Tie as tie
