@@ -7,7 +7,7 @@ use mathlib.Core.List.{List, [], _∷_}
 use lib.Dec.{leb, eqb}
 use borrow.Author.Tests.{leb-true, eqb-false}
 use Rattle.laws.proofs.Order.{picked, both-true}
-use Rattle.field.specs.Schema.{ClientMessage}
+use Rattle.schema.specs.Schema.{ClientMessage}
 use Rattle.encoding.specs.Check.{checkOf}
 use Rattle.fields.specs.Fields.{among}
 use Rattle.fields.specs.Items.{Item, none, number, bytes, items, lastFrom, lastItem}

@@ -4,7 +4,7 @@ use native.Mathlib.Omega.{arith}
 use mathlib.Core.List.{List}
 use lib.Dec.{eqb}
 use Rattle.laws.proofs.Order.{picked}
-use Rattle.field.specs.Schema.{ClientMessage}
+use Rattle.schema.specs.Schema.{ClientMessage}
 use Rattle.encoding.specs.Check.{checkOf}
 use Rattle.fields.specs.Items.{Item, none, number, bytes, items, lastItem}
 use Rattle.encoding.specs.declared.check.Checked.{Checked}

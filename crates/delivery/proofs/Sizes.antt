@@ -12,7 +12,7 @@ use borrow.Author.Tests.{eqb-true}
 use Rattle.laws.specs.Base.{pick}
 use Rattle.laws.proofs.Order.{picked}
 use Rattle.laws.proofs.Parts.{length-part}
-use Rattle.field.specs.Schema.{ClientMessage}
+use Rattle.schema.specs.Schema.{ClientMessage}
 use Rattle.encoding.specs.Check.{checkOf}
 use Rattle.fields.specs.Fields.{fieldAt, onField, fieldsFrom, fieldsAt, among}
 use Rattle.fields.specs.Items.{Item, none, number, bytes, itemOf, items, lastFrom, lastItem, bytesOf}

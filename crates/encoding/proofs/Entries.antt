@@ -10,7 +10,7 @@ use lib.Dec.{lit≤}
 use borrow.Author.Tests.{le-leb, lt-leb}
 use Rattle.laws.specs.Base.{part}
 use Rattle.field.specs.Varint.{varintAt}
-use Rattle.field.specs.Schema.{kindOf, takes, schema, InfoMessage, StringList}
+use Rattle.schema.specs.Schema.{kindOf, takes, schema, InfoMessage, StringList}
 use Rattle.field.specs.Field.{tagFits, tagOf, tagAt, numberOf, partOf, payloadAt}
 use Rattle.encoding.specs.Check.{stepOf, checkAt, checkOf}
 use Rattle.fields.specs.Fields.{fieldOf, fieldAt, onField, fieldsAt}

@@ -7,7 +7,7 @@ use lib.Dec.{ltb, leb, eqb}
 use Rattle.laws.specs.Base.{pick, part}
 use Rattle.field.specs.Varint.{varintAt}
 use Rattle.field.specs.Field.{tagAt, numberOf, payloadAt}
-use Rattle.field.specs.Schema.{kindOf, takes}
+use Rattle.schema.specs.Schema.{kindOf, takes}
 use Rattle.field.specs.declared.tag.Tag.{Tag}
 use Rattle.field.specs.declared.tag.Tag.the-variants as tag
 use Rattle.field.specs.declared.payload.Payload.{Payload}

@@ -4,7 +4,7 @@ use mathlib.Core.Path.{_≡_}
 use mathlib.Core.List.{List, [], _∷_}
 use lib.ListN.{length}
 use Rattle.laws.specs.Base.{part}
-use Rattle.field.specs.Schema.{InfoMessage, StringList, NumberList}
+use Rattle.schema.specs.Schema.{InfoMessage, StringList, NumberList}
 use Rattle.encoding.specs.Check.{stepAt, checkOf}
 use Rattle.fields.specs.Fields.{fieldAt, fieldsOf}
 use Rattle.encoding.specs.declared.check.Step.the-variants.{Next}

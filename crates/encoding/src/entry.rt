@@ -6,7 +6,7 @@ use field::payload::part_at;
 use laws::wide;
 ghost use mathlib.Core.Path.{_≡_};
 ghost use mathlib.Core.Bool.{true};
-ghost use Rattle.field.specs.Schema.{InfoMessage, StringList};
+ghost use Rattle.schema.specs.Schema.{InfoMessage, StringList};
 ghost use Rattle.encoding.specs.Check.{checkOf};
 ghost use Rattle.encoding.specs.Entry.{Keyed, Formed};
 ghost use Rattle.encoding.specs.declared.check.Checked.the-variants.{Fine};

@@ -1,3 +1,2 @@
 pub mod Varints
 pub mod Slow
-pub mod Rows

@@ -1,4 +1,2 @@
 pub mod Varint
 pub mod Field
-pub mod Schema
-pub mod Rows

@@ -1,5 +1,4 @@
-// One field of a message: varints, tags, values, and the schema of sudo_logsrv.proto, which says which fields are known.
+// One field of a message: varints, tags and values.
 pub mod payload;
-pub mod schema;
 pub mod tag;
 pub mod varint;

@@ -9,7 +9,7 @@ use lib.Dec.{T, leb, eqb, eqb→eq}
 use borrow.Author.Tests.{le-leb, lt-leb, eq-eqb}
 use Rattle.laws.specs.Base.{pick, both, part}
 use Rattle.field.specs.Varint.{varintAt}
-use Rattle.field.specs.Schema.{kindOf, takes, schema}
+use Rattle.schema.specs.Schema.{kindOf, takes, schema}
 use Rattle.field.specs.Field.{tagFits, tagOf, tagAt, partOf, payloadAt}
 use Rattle.field.specs.declared.varint.Varint.{Varint}
 use Rattle.field.specs.declared.varint.Varint.the-variants.{Value}
@@ -19,7 +19,7 @@ use Rattle.fields.specs.declared.Found.{Found}
 use Rattle.fields.specs.declared.Found.the-variants as found
 use Rattle.laws.proofs.Parts.{length-part}
 use Rattle.field.proofs.Varints as varints
-use Rattle.field.proofs.Rows.{kinds}
+use Rattle.schema.proofs.Rows.{kinds}
 use Rattle.encoding.proofs.Walk.{lies, tag-is}
 use Rattle.walk.specs.Places.{timeSpecOf, ioBufferOf, clientOf}
 use Rattle.plain.specs.Plain.{HasTag, Finds, Ends, TimeSaid, Tailed, IoSaid, IoTag, ClientSaid, withData}

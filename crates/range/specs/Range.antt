@@ -7,7 +7,7 @@ use lib.IntN.{ℤ, pos, negsuc}
 use lib.ListN.{length}
 use lib.Dec.{leb, eqb}
 use Rattle.laws.specs.Base.{pick, both}
-use Rattle.field.specs.Schema.{kindOf, message, ClientMessage, AcceptMessage, RejectMessage, ExitMessage, RestartMessage, AlertMessage, IoBuffer, ChangeWindowSize, CommandSuspend, InfoMessage, ServerMessage}
+use Rattle.schema.specs.Schema.{kindOf, message, ClientMessage, AcceptMessage, RejectMessage, ExitMessage, RestartMessage, AlertMessage, IoBuffer, ChangeWindowSize, CommandSuspend, InfoMessage, ServerMessage}
 use Rattle.fields.specs.Items.{Item, none, number, bytes, items, lastItem}
 use Rattle.message.specs.Message.{TimeSpec, Value, absent, numval, strval, strlistval, numlistval, Entry, Accept, Report, Exit, Restart, Timed, WindowSize, timeSpec, entry, accept, report, exit, restart, timed, windowSize}
 

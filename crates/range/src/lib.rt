@@ -1,5 +1,4 @@
 // The ranges of document 01's table.
-use field::schema::kind_of;
 use fields::Found;
 use fields::Last;
 use fields::last_in;
@@ -9,6 +8,7 @@ use fields::part_in;
 use message::Value;
 use message::time_spec_in;
 use message::value_in;
+use schema::kind_of;
 use walk::time::Time;
 use walk::time::time_in;
 ghost use mathlib.Core.Path.{_≡_};

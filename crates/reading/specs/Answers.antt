@@ -5,7 +5,7 @@ use mathlib.Core.Path.{_≡_}
 use lib.ListN.{length}
 use lib.Dec.{leb, eqb}
 use Rattle.laws.specs.Base.{pick}
-use Rattle.field.specs.Schema.{ClientMessage, InfoMessage, ServerMessage}
+use Rattle.schema.specs.Schema.{ClientMessage, InfoMessage, ServerMessage}
 use Rattle.fields.specs.Fields.{lastIn, memberFrom}
 use Rattle.fields.specs.declared.Found.{Found}
 use Rattle.fields.specs.declared.Found.the-variants as found

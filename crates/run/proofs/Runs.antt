@@ -10,7 +10,7 @@ use lib.Dec.{eqb}
 use borrow.Author.Tests.{lt-ltb, le-ltb}
 use Rattle.laws.specs.Base.{pick, part}
 use Rattle.laws.proofs.Order.{lt-or-le, picked}
-use Rattle.field.specs.Schema.{InfoMessage}
+use Rattle.schema.specs.Schema.{InfoMessage}
 use Rattle.field.specs.Field.{tagAt, payloadAt}
 use Rattle.encoding.specs.Check.{before, checkOf}
 use Rattle.field.specs.declared.tag.Tag.{Tag}

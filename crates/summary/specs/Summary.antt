@@ -6,7 +6,7 @@ use mathlib.Core.List.{List}
 use mathlib.Core.Bool.{Bool, true, false}
 use lib.Dec.{eqb}
 use Rattle.laws.specs.Base.{pick}
-use Rattle.field.specs.Schema.{AcceptMessage}
+use Rattle.schema.specs.Schema.{AcceptMessage}
 use Rattle.fields.specs.Items.{items}
 use Rattle.message.specs.Message.{Bytes, Value, absent, numval, strval, strlistval, numlistval, Entry, entries, accept}
 use Rattle.range.specs.Range.{entryFits, bodyFits}

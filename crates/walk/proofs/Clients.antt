@@ -9,7 +9,7 @@ use lib.Dec.{T, leb, ltb, eqb, lit≤, leb→le, eqb→eq}
 use borrow.Author.Tests.{lt-leb, le-leb, lt-ltb, le-ltb, ne-eqb, eq-eqb, eqb-true, ltb-true}
 use Rattle.laws.specs.Base.{pick, both}
 use Rattle.field.specs.Varint.{varintAt}
-use Rattle.field.specs.Schema.{kindOf, takes, schema}
+use Rattle.schema.specs.Schema.{kindOf, takes, schema}
 use Rattle.field.specs.Field.{tagAt, partOf, payloadAt}
 use Rattle.encoding.specs.Check.{stepOf, stepAt}
 use Rattle.laws.specs.Base.{part}
@@ -33,7 +33,7 @@ use Rattle.walk.specs.declared.client.ClientRead.{ClientRead}
 use Rattle.walk.specs.declared.client.ClientRead.the-variants as client
 use Rattle.encoding.proofs.Checks.{at-end}
 use Rattle.fields.proofs.Follow.{none, span-lies}
-use Rattle.field.proofs.Rows.{kinds}
+use Rattle.schema.proofs.Rows.{kinds}
 use Rattle.encoding.proofs.Walk.{On, leads-on, ends-at, outside, inside-on, inside-stops, no-number, field-leads, field-inside, field-part, field-stops}
 
 -- what an I/O buffer's walk says of its check and where its data lies

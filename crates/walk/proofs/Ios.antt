@@ -9,7 +9,7 @@ use lib.Dec.{T, leb, ltb, eqb, lit≤, ltb→lt}
 use borrow.Author.Tests.{ne-eqb, eqb-true, ltb-true}
 use Rattle.laws.specs.Base.{pick}
 use Rattle.field.specs.Varint.{varintAt}
-use Rattle.field.specs.Schema.{kindOf, takes, schema}
+use Rattle.schema.specs.Schema.{kindOf, takes, schema}
 use Rattle.field.specs.Field.{tagFits, tagOf, partOf}
 use Rattle.encoding.specs.Check.{stepFrom, stepAt}
 use Rattle.laws.specs.Base.{part}
@@ -31,7 +31,7 @@ use Rattle.walk.specs.declared.time.TimeRead.the-variants as timeread
 use Rattle.walk.specs.declared.io.IoRead.the-variants as ioread
 use Rattle.encoding.proofs.Checks.{at-end}
 use Rattle.fields.proofs.Follow.{none}
-use Rattle.field.proofs.Rows.{kinds}
+use Rattle.schema.proofs.Rows.{kinds}
 use Rattle.encoding.proofs.Walk.{On, leads-on, ends-at, outside, other, rest-leads, part-field, part-leads, part-inside, part-stops, inside-on, inside-stops, none-inside}
 
 -- what a TimeSpec's walk says of its check and its numbers

@@ -9,7 +9,7 @@ use lib.Dec.{T, leb, ltb, eqb, lit≤, ltb→lt}
 use borrow.Author.Tests.{lt-leb, ne-eqb, eq-eqb, eqb-true, ltb-true, leb-true}
 use Rattle.laws.specs.Base.{pick}
 use Rattle.field.specs.Varint.{varintAt}
-use Rattle.field.specs.Schema.{kindOf, takes, schema}
+use Rattle.schema.specs.Schema.{kindOf, takes, schema}
 use Rattle.field.specs.Field.{tagFits, tagOf, payloadAt}
 use Rattle.encoding.specs.Check.{stepOf, stepFrom, stepAt}
 use Rattle.encoding.specs.Check.{checkAt, checkOf}
@@ -30,7 +30,7 @@ use Rattle.walk.specs.declared.time.TimeRead.the-variants as timeread
 use Rattle.encoding.proofs.Checks.{at-end}
 use Rattle.fields.proofs.Follow.{none}
 use Rattle.encoding.proofs.Walk.{alone}
-use Rattle.field.proofs.Rows.{kinds}
+use Rattle.schema.proofs.Rows.{kinds}
 use Rattle.encoding.proofs.Walk.{Leads, further, checks-on, keeps-on, ends-at, outside, same-number, number-leads, number-past, number-long, Rest, rest-leads}
 
 -- at a place of the walk: the check and the last numbers of the whole are those from here on

@@ -5,7 +5,7 @@ use mathlib.Core.List.{List}
 use mathlib.Core.Bool.{Bool, true, false}
 use lib.Dec.{eqb}
 use Rattle.laws.specs.Base.{part}
-use Rattle.field.specs.Schema.{kindOf}
+use Rattle.schema.specs.Schema.{kindOf}
 use Rattle.encoding.specs.Check.{checkOf}
 use Rattle.fields.specs.Fields.{numberIn, lastIn, startFrom, endFrom}
 use Rattle.fields.specs.declared.Last.{Last}

@@ -5,10 +5,10 @@ use encoding::check::Checked;
 use encoding::check::check;
 use field::payload::Payload;
 use field::payload::payload_at;
-use field::schema::kind_of;
-use field::schema::takes;
 use field::tag::Tag;
 use field::tag::tag_at;
+use schema::kind_of;
+use schema::takes;
 ghost use mathlib.Core.Path.{_≡_};
 ghost use Rattle.walk.specs.Places.{clientOf};
 

@@ -9,7 +9,7 @@ use lib.Dec.{T, leb, eqb, leb→le}
 use borrow.Author.Tests.{le-leb, ne-eqb, eqb-true, eq-eqb}
 use Rattle.laws.specs.Base.{pick, both, part}
 use Rattle.laws.proofs.Parts.{part-part, length-part}
-use Rattle.field.specs.Schema.{schema, kindOf}
+use Rattle.schema.specs.Schema.{schema, kindOf}
 use Rattle.encoding.specs.Check.{checkOf}
 use Rattle.fields.specs.Fields.{lastIn, startFrom, endFrom}
 use Rattle.fields.specs.Items.{Item, items, lastItem}
@@ -17,7 +17,7 @@ use Rattle.encoding.specs.declared.check.Checked.{Checked}
 use Rattle.encoding.specs.declared.check.Checked.the-variants as checked
 use Rattle.fields.specs.declared.Last.{Last}
 use Rattle.fields.specs.declared.Last.the-variants as last
-use Rattle.field.proofs.Rows.{kinds}
+use Rattle.schema.proofs.Rows.{kinds}
 use Rattle.fields.proofs.Follow.{LastLies, last-in-lies, span-lies}
 use Rattle.fields.proofs.Items.{contentOf, last-means, bytes-means}
 use Rattle.walk.specs.Places.{timeIn, ioRead, ioBufferOf, memberRead, clientFrom, clientRead, clientOf}

@@ -4,7 +4,7 @@ use mathlib.Core.List.{List}
 use mathlib.Core.Bool.{Bool, true, false}
 use lib.Dec.{eqb}
 use Rattle.laws.specs.Base.{pick}
-use Rattle.field.specs.Schema.{ClientMessage, ServerMessage}
+use Rattle.schema.specs.Schema.{ClientMessage, ServerMessage}
 use Rattle.encoding.specs.Check.{checkOf}
 use Rattle.fields.specs.Items.{Item, none, number, bytes, items, lastItem}
 use Rattle.encoding.specs.declared.check.Checked.{Checked}

@@ -7,7 +7,7 @@ use mathlib.Core.Bool.{Bool, true, false}
 use lib.ListN.{length, length-append}
 use lib.Dec.{ltb, leb, eqb}
 use Rattle.laws.specs.Base.{pick}
-use Rattle.field.specs.Schema.{schema, kindOf, takes}
+use Rattle.schema.specs.Schema.{schema, kindOf, takes}
 use Rattle.fields.specs.Fields.{among}
 use Rattle.fields.specs.Items as i
 use Rattle.fields.specs.Items.{Item, none, items, lastFrom, numberOf, bytesOf, everyBytes}

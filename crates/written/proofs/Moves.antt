@@ -14,7 +14,7 @@ use Rattle.laws.specs.Base.{pick, part}
 use Rattle.laws.proofs.Order.{lt-or-le}
 use Rattle.laws.proofs.Parts.{part-part}
 use Rattle.field.specs.Varint.{above, varintFrom, varintAt}
-use Rattle.field.specs.Schema.{kindOf, takes}
+use Rattle.schema.specs.Schema.{kindOf, takes}
 use Rattle.field.specs.Field.{tagFits, tagOf, tagAt, fixedAt, numberOf, partOf, payloadAt}
 use Rattle.encoding.specs.Check.{stepOf, stepFrom, stepAt}
 use Rattle.fields.specs.Fields.{fieldOf, fieldFrom, fieldAt}

@@ -7,7 +7,7 @@ use mathlib.Core.Bool.{Bool, true, false}
 use lib.ListN.{length, length-append}
 use lib.Dec.{leb, eqb}
 use Rattle.laws.specs.Base.{pick}
-use Rattle.field.specs.Schema.{kindOf, takes}
+use Rattle.schema.specs.Schema.{kindOf, takes}
 use Rattle.encoding.specs.Check.{checkOf}
 use Rattle.fields.specs.Items as i
 use Rattle.fields.specs.Items.{Item, itemOf, items}

@@ -10,7 +10,7 @@ use borrow.Author.Tests.{le-leb}
 use Rattle.laws.specs.Base.{pick, both, part}
 use Rattle.laws.proofs.Order.{picked}
 use Rattle.field.specs.Varint.{varintAt}
-use Rattle.field.specs.Schema.{kindOf, takes, InfoMessage}
+use Rattle.schema.specs.Schema.{kindOf, takes, InfoMessage}
 use Rattle.field.specs.Field.{tagFits, tagOf, tagAt, fixedAt, numberOf, partOf, payloadAt}
 use Rattle.encoding.specs.Check.{stepOf, stepFrom, stepAt}
 use Rattle.encoding.specs.Check.{before, onStep, checkFrom, checkAt, checkOf}

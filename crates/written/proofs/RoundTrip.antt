@@ -9,7 +9,7 @@ use lib.Dec.{T, leb, eqb, eqb→eq}
 use borrow.Author.Tests.{le-leb, eq-eqb, ne-eqb}
 use Rattle.laws.specs.Base.{pick, both}
 use Rattle.laws.proofs.Table.{below}
-use Rattle.field.specs.Schema.{schema, kindOf, takes}
+use Rattle.schema.specs.Schema.{schema, kindOf, takes}
 use Rattle.encoding.specs.Check.{checkOf}
 use Rattle.fields.specs.Fields.{among}
 use Rattle.fields.specs.Items as i

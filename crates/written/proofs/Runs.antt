@@ -12,7 +12,7 @@ use borrow.Author.Tests.{lt-ltb, le-ltb, eq-eqb, ne-eqb, eqb-true}
 use Rattle.laws.specs.Base.{pick, part}
 use Rattle.laws.proofs.Order.{lt-or-le, picked}
 use Rattle.field.specs.Varint.{varintAt}
-use Rattle.field.specs.Schema.{kindOf, takes, message, InfoMessage}
+use Rattle.schema.specs.Schema.{kindOf, takes, message, InfoMessage}
 use Rattle.field.specs.Field.{tagAt, partOf, payloadAt}
 use Rattle.encoding.specs.Check.{stepOf, stepFrom, stepAt}
 use Rattle.encoding.specs.Check.{before, checkOf}

@@ -13,7 +13,7 @@ use Rattle.laws.specs.Base.{pick, part}
 use Rattle.laws.proofs.Order.{lt-or-le}
 use Rattle.field.specs.Varint as r
 use Rattle.field.specs.Varint.{varintAt}
-use Rattle.field.specs.Schema.{kindOf, takes}
+use Rattle.schema.specs.Schema.{kindOf, takes}
 use Rattle.field.specs.Field.{tagFits, tagOf, tagAt, numberOf, partOf, payloadAt}
 use Rattle.encoding.specs.Check.{stepOf, stepFrom, stepAt}
 use Rattle.encoding.specs.Check.{checkOf}

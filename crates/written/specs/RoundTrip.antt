@@ -9,7 +9,7 @@ use lib.Dec.{leb, eqb}
 use Rattle.laws.specs.Base.{pick, part}
 use Rattle.frame.specs.Frame.{largest, cutOf}
 use Rattle.frame.specs.declared.Cut.the-variants as cut
-use Rattle.field.specs.Schema.{kindOf, takes, message, ClientMessage, TimeSpec, InfoMessage, StringList, NumberList, ServerHello}
+use Rattle.schema.specs.Schema.{kindOf, takes, message, ClientMessage, TimeSpec, InfoMessage, StringList, NumberList, ServerHello}
 use Rattle.encoding.specs.Check.{checkOf}
 use Rattle.fields.specs.Items as i
 use Rattle.fields.specs.Items.{Item, items}

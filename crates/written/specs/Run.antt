@@ -7,7 +7,7 @@ use mathlib.Core.Bool.{Bool}
 use lib.ListN.{length}
 use lib.Dec.{ltb, eqb}
 use Rattle.laws.specs.Base.{pick, part}
-use Rattle.field.specs.Schema.{InfoMessage}
+use Rattle.schema.specs.Schema.{InfoMessage}
 use Rattle.field.specs.Field.{tagAt, payloadAt}
 use Rattle.encoding.specs.Check.{before, checkOf}
 use Rattle.fields.specs.Items.{items}

@@ -3,7 +3,7 @@ use native.Mathlib.Omega.{arith}
 use mathlib.Core.Path.{_≡_, refl, sym, _∙_}
 use lib.ListN.{length}
 use borrow.Author.Needs.{needs}
-use Rattle.field.specs.Schema.{StringList}
+use Rattle.schema.specs.Schema.{StringList}
 use Rattle.encoding.specs.Check.{checkAt, checkOf}
 use Rattle.encoding.proofs.Checks.{at-end}
 use Rattle.encoding.proofs.Entries.{Passed, passed, unsaid}

@@ -12,8 +12,8 @@ use borrow.Author.Tests.{lt-ltb, le-ltb, ne-eqb}
 use Rattle.laws.specs.Base.{pick}
 use Rattle.laws.proofs.Order.{lt-or-le}
 use Rattle.laws.proofs.Table.{every, below}
-use Rattle.field.specs.Schema.{schema, kindOf, unknown}
-use Rattle.field.specs.Rows.{lows, lowOf, highOf, kindIn}
+use Rattle.schema.specs.Schema.{schema, kindOf, unknown}
+use Rattle.schema.specs.Rows.{lows, lowOf, highOf, kindIn}
 
 same : ℕ → Bool
 same i = eqb (kindIn (lowOf (i / 16)) (highOf (i / 16)) (i % 16)) (kindOf (i / 16) (i % 16))

@@ -1,8 +1,8 @@
 use mathlib.Core.Path.{_∙_}
-use Rattle.field.proofs.Rows.{kind-in}
+use Rattle.schema.proofs.Rows.{kind-in}
 use borrow.Author.Needs.{needs}
-use Rattle.field.proofs.schema.kind_of.Statement.{statement}
-use Rattle.field.proofs.schema.kind_of.Tie as tie
+use Rattle.schema.proofs.kind_of.Statement.{statement}
+use Rattle.schema.proofs.kind_of.Tie as tie
 
 low-of-requires : tie.Need-low-of-requires
 low-of-requires c κs = search needs

@@ -1,7 +1,7 @@
 // sudo_logsrv.proto: the kind of each message's fields.
 ghost use mathlib.Core.Path.{_≡_};
-ghost use Rattle.field.specs.Schema.{kindOf};
-ghost use Rattle.field.specs.Rows.{lowOf, highOf, kindIn};
+ghost use Rattle.schema.specs.Schema.{kindOf};
+ghost use Rattle.schema.specs.Rows.{lowOf, highOf, kindIn};
 
 // The kinds of a message's fields 0 to 7, a byte for each. A `match`, and no constant table: a table is built anew at each use.
 fn low_of(message: u8) -> u64
@@ -59,7 +59,7 @@ pub fn kind_of(message: u8, number: u64) -> u8
 
 // Does a field of this kind take this wire type.
 pub fn takes(kind: u8, wire: u8) -> bool
-    ensures { λ r. ⌜ r ≡ Rattle.field.specs.Schema.takes kind wire ⌝ }
+    ensures { λ r. ⌜ r ≡ Rattle.schema.specs.Schema.takes kind wire ⌝ }
 {
     if kind == 0 {
         return true;

@@ -1,8 +1,8 @@
 use native.Mathlib.Omega.{arith}
-use Rattle.field.specs.Rows.{lowOf, lows}
-use Rattle.field.proofs.Rows.{low-past, up}
-use Rattle.field.proofs.schema.low_of.Statement.{statement}
-use Rattle.field.proofs.schema.low_of.Tie as tie
+use Rattle.schema.specs.Rows.{lowOf, lows}
+use Rattle.schema.proofs.Rows.{low-past, up}
+use Rattle.schema.proofs.low_of.Statement.{statement}
+use Rattle.schema.proofs.low_of.Tie as tie
 
 returns : tie.Need-returns
 unfolding lowOf lows

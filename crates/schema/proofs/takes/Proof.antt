@@ -1,7 +1,7 @@
 use Rattle.laws.proofs.Tests.{tests}
-use Rattle.field.specs.Schema.{takes}
-use Rattle.field.proofs.schema.takes.Statement.{statement}
-use Rattle.field.proofs.schema.takes.Tie as tie
+use Rattle.schema.specs.Schema.{takes}
+use Rattle.schema.proofs.takes.Statement.{statement}
+use Rattle.schema.proofs.takes.Tie as tie
 
 returns : tie.Need-returns
 unfolding takes

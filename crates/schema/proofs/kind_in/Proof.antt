@@ -1,8 +1,8 @@
 use borrow.Author.Tests.{lt-ltb, le-ltb}
-use Rattle.field.specs.Rows.{kindIn}
+use Rattle.schema.specs.Rows.{kindIn}
 use borrow.Author.Needs.{needs}
-use Rattle.field.proofs.schema.kind_in.Statement.{statement}
-use Rattle.field.proofs.schema.kind_in.Tie as tie
+use Rattle.schema.proofs.kind_in.Statement.{statement}
+use Rattle.schema.proofs.kind_in.Tie as tie
 
 mul-result : tie.Need-mul-result
 mul-result c = search needs

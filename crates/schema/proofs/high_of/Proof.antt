@@ -1,7 +1,7 @@
 use borrow.Author.Tests.{ne-eqb, eq-eqb}
-use Rattle.field.specs.Rows.{highOf}
-use Rattle.field.proofs.schema.high_of.Statement.{statement}
-use Rattle.field.proofs.schema.high_of.Tie as tie
+use Rattle.schema.specs.Rows.{highOf}
+use Rattle.schema.proofs.high_of.Statement.{statement}
+use Rattle.schema.proofs.high_of.Tie as tie
 
 returns : tie.Need-returns
 unfolding highOf
