@@ -1,9 +1,9 @@
 // The one form from which every message is written: its fields at each number, in rising number. What a message does not have
 // is left out by its value: a number that is 0, no bytes, the field number 0.
-use pieces::list::len_list;
-use pieces::list::len_numbers;
-use pieces::list::put_list;
-use pieces::list::put_numbers;
+use lists::len_list;
+use lists::len_numbers;
+use lists::put_list;
+use lists::put_numbers;
 use pieces::number::len_number;
 use pieces::number::put_number;
 use pieces::part::len_cover;

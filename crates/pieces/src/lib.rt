@@ -2,6 +2,5 @@
 // which have seen to the room before they put anything: `put_..` requires it, and answers the place after what it put.
 // A length that passes the limit of a message is answered as some number above it (`Like`).
 
-pub mod list;
 pub mod number;
 pub mod part;

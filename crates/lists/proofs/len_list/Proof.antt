@@ -1,10 +1,10 @@
-use Rattle.pieces.proofs.Lists.{Counted, next-end, counted-more, counted-long, counted-end}
+use Rattle.lists.proofs.Lists.{Counted, next-end, counted-more, counted-long, counted-end}
 use borrow.Author.Needs.{needs}
 use lib.ListN.{length}
 use native.Mathlib.Omega.{arith}
 use Prim.Native.Nat.{_-_, _≤_}
-use Rattle.pieces.proofs.list.len_list.Statement.{statement}
-use Rattle.pieces.proofs.list.len_list.Tie as tie
+use Rattle.lists.proofs.len_list.Statement.{statement}
+use Rattle.lists.proofs.len_list.Tie as tie
 
 abbrev Inv-loop : tie.InvT-loop
 Inv-loop f joined ends a₀ n₀ i₀ a n i = (i ≤ length ends) × Counted f joined ends a n i

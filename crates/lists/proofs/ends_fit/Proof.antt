@@ -1,5 +1,5 @@
 use mathlib.Core.Bool.{true, not}
-use Rattle.pieces.proofs.Lists.{ends-step, ends-done, not-not}
+use Rattle.lists.proofs.Lists.{ends-step, ends-done, not-not}
 use Rattle.written.specs.Draft.{badEnds}
 use borrow.Author.Tests.{lt-ltb, le-ltb}
 use borrow.Author.Needs.{needs}
@@ -7,8 +7,8 @@ use lib.ListN.{length, drop}
 use native.Mathlib.Omega.{arith}
 use Prim.Native.Nat.{_-_, _≤_}
 use mathlib.Core.Path.{_≡_, refl, sym, ap, _∙_}
-use Rattle.pieces.proofs.list.ends_fit.Statement.{statement}
-use Rattle.pieces.proofs.list.ends_fit.Tie as tie
+use Rattle.lists.proofs.ends_fit.Statement.{statement}
+use Rattle.lists.proofs.ends_fit.Tie as tie
 
 abbrev Inv-loop : tie.InvT-loop
 Inv-loop size ends a₀ i₀ a i = (i ≤ length ends) × (badEnds size a (drop i ends) ≡ badEnds size 0 ends)

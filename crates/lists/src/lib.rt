@@ -1,16 +1,16 @@
 // Lists of strings, lent as joined bytes and ends, and packed numbers.
-use crate::number::len_varint;
-use crate::number::put_varint;
-use crate::part::len_head;
-use crate::part::put_head;
-use crate::part::put_raw;
+use pieces::number::len_varint;
+use pieces::number::put_varint;
+use pieces::part::len_head;
+use pieces::part::put_head;
+use pieces::part::put_raw;
 ghost use mathlib.Core.Path.{_≡_};
 ghost use Prim.Native.Nat.{_+_, _≤_};
 ghost use mathlib.Core.Bool.{false, not};
 ghost use lib.ListN.{length};
 ghost use Rattle.written.specs.Pieces.{elements, text, encode, packed};
 ghost use Rattle.written.specs.Draft.{cutAt, badEnds};
 ghost use Rattle.pieces.specs.Put.{Put, Like};
 
 // Are the ends of a list's elements good: they don't fall, and the last one is the size of the joined bytes.
 pub fn ends_fit(size: usize, ends: &[usize]) -> bool

@@ -1,14 +1,14 @@
 use Rattle.pieces.proofs.Lengths.{like-within}
 use Rattle.pieces.proofs.Fields.{text-none, text-some, length-text}
 use Rattle.pieces.proofs.Puts.{nothing, puts}
 use Rattle.written.specs.Pieces.{head, packed}
 use lib.ListN.{length}
 use native.Mathlib.Omega.{arith}
 use Prim.Native.Nat.{ℕ}
 use mathlib.Core.Path.{_≡_, sym, ap, _∙_}
 use borrow.Author.Needs.{needs}
-use Rattle.pieces.proofs.list.put_numbers.Statement.{statement}
-use Rattle.pieces.proofs.list.put_numbers.Tie as tie
+use Rattle.lists.proofs.put_numbers.Statement.{statement}
+use Rattle.lists.proofs.put_numbers.Tie as tie
 
 len-packed-requires : tie.Need-len-packed-requires
 len-packed-requires c κs = search needs

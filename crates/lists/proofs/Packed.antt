@@ -5,8 +5,8 @@ use native.Mathlib.Omega.{arith}
 use mathlib.Core.List.{List, [], _++_}
 use lib.ListN.{length, drop, getD, length-append, drop-of-length-le}
 use Rattle.written.specs.Pieces.{varint, packed}
 use Rattle.pieces.specs.Put.{Like, exact, beyond}
-use Rattle.pieces.proofs.Lists.{next-drop}
+use Rattle.lists.proofs.Lists.{next-drop}
 
 module _ (vs : List ℕ) (i : ℕ) where
   pub next-number : i < length vs → packed (drop i vs) ≡ varint (getD vs i 0) ++ packed (drop (i + 1) vs)

@@ -1,12 +1,12 @@
 use Rattle.written.specs.Pieces.{varint, packed}
 use lib.ListN.{length, drop, getD}
-use Rattle.pieces.proofs.Packed.{next-number, no-number}
+use Rattle.lists.proofs.Packed.{next-number, no-number}
 use Rattle.pieces.proofs.Puts.{Filling, fill-start, fill-room, fill-more, fill-end}
 use borrow.Author.Needs.{needs}
 use native.Mathlib.Omega.{arith}
 use Prim.Native.Nat.{_+_, _-_, _≤_}
-use Rattle.pieces.proofs.list.put_packed.Statement.{statement}
-use Rattle.pieces.proofs.list.put_packed.Tie as tie
+use Rattle.lists.proofs.put_packed.Statement.{statement}
+use Rattle.lists.proofs.put_packed.Tie as tie
 
 abbrev Inv-loop : tie.InvT-loop
 Inv-loop out₀ at numbers o₀ i₀ out o i = (i ≤ length numbers) × Filling out₀ at (packed numbers) out o (packed (drop i numbers))

@@ -1,8 +1,8 @@
 use Rattle.pieces.proofs.Lengths.{like-none, like-text}
 use native.Mathlib.Omega.{arith}
 use borrow.Author.Needs.{needs}
-use Rattle.pieces.proofs.list.len_numbers.Statement.{statement}
-use Rattle.pieces.proofs.list.len_numbers.Tie as tie
+use Rattle.lists.proofs.len_numbers.Statement.{statement}
+use Rattle.lists.proofs.len_numbers.Tie as tie
 
 len-packed-requires : tie.Need-len-packed-requires
 len-packed-requires c κs = search needs

@@ -1,12 +1,12 @@
-use Rattle.pieces.proofs.Lists.{Listed, listed-room, listed-more, listed-end, elementsFrom, next-end}
+use Rattle.lists.proofs.Lists.{Listed, listed-room, listed-more, listed-end, elementsFrom, next-end}
 use Rattle.pieces.proofs.Puts.{fill-start}
 use Rattle.laws.proofs.Parts.{length-part}
 use borrow.Author.Needs.{needs}
 use lib.ListN.{length, getD}
 use native.Mathlib.Omega.{arith}
 use Prim.Native.Nat.{_-_, _≤_}
-use Rattle.pieces.proofs.list.put_list.Statement.{statement}
-use Rattle.pieces.proofs.list.put_list.Tie as tie
+use Rattle.lists.proofs.put_list.Statement.{statement}
+use Rattle.lists.proofs.put_list.Tie as tie
 
 abbrev Inv-loop : tie.InvT-loop
 Inv-loop out₀ at f joined ends a₀ o₀ i₀ out a o i = (i ≤ length ends) × Listed out₀ at f joined ends out a o i

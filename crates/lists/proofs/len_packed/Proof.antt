@@ -1,10 +1,10 @@
-use Rattle.pieces.proofs.Packed.{Counted, counted-more, counted-long, counted-end}
+use Rattle.lists.proofs.Packed.{Counted, counted-more, counted-long, counted-end}
 use borrow.Author.Needs.{needs}
 use lib.ListN.{length}
 use native.Mathlib.Omega.{arith}
 use Prim.Native.Nat.{_-_, _≤_}
-use Rattle.pieces.proofs.list.len_packed.Statement.{statement}
-use Rattle.pieces.proofs.list.len_packed.Tie as tie
+use Rattle.lists.proofs.len_packed.Statement.{statement}
+use Rattle.lists.proofs.len_packed.Tie as tie
 
 abbrev Inv-loop : tie.InvT-loop
 Inv-loop numbers n₀ i₀ n i = (i ≤ length numbers) × Counted numbers n i
