@@ -4,6 +4,7 @@ use field::payload::payload_at;
 use field::tag::Tag;
 use field::tag::tag_at;
 ghost use mathlib.Core.Path.{_≡_};
+ghost use Prim.Native.Nat.{_-_};
 ghost use Rattle.fields.specs.Fields.{fieldAt, fieldsAt, lastIn, numberIn, spanIn, firstOf};
 
 pub enum Field {
@@ -209,4 +210,14 @@ pub fn next_part(s: &[u8], from: usize, number: u64) -> Found
         }
     }
     Found::Nothing
+}
+
+// The length between two places, 0 where the second is not past the first.
+pub fn between(start: usize, end: usize) -> u64
+    ensures { λ r. ⌜ r ≡ end - start ⌝ }
+{
+    if start <= end {
+        return (end - start) as u64;
+    }
+    0
 }

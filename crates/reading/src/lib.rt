@@ -1,32 +1,24 @@
 // What C calls to read: functions on numbers and byte slices alone. include/sudolog.h declares them and says what each one answers.
 // A `&[u8]` comes as a pointer and a length; a `&mut [u8]` is the buffer that the caller lends for more than one number.
 
-use elements::Next;
-use elements::next_number;
-use fields::Found;
 use fields::Last;
+use fields::between;
 use fields::last_in;
-use fields::next_part;
-use fields::number_in;
-use fields::part_in;
 use frame::count_of;
 use frame::cut_frame;
 use frame::state_of;
 use numbers::lay_five;
-use numbers::lay_three;
 use walk::client::ClientRead;
 use wire::client_message;
 use wire::decode;
 use wire::read;
 ghost use mathlib.Core.Path.{_≡_};
-ghost use Prim.Native.Nat.{_-_};
 ghost use lib.ListN.{length};
 ghost use Rattle.frame.specs.Frame.{cutOf, stateOf, countOf};
-ghost use Rattle.fields.specs.Fields.{fieldsAt, lastIn, numberIn, spanIn, firstOf, memberFrom};
-ghost use Rattle.elements.specs.Elements.{numbersAt};
+ghost use Rattle.fields.specs.Fields.{lastIn, memberFrom};
 ghost use Rattle.walk.specs.Places.{clientOf};
 ghost use Rattle.wire.specs.Read.{decodeNumber, readNumber};
-ghost use Rattle.reading.specs.Answers.{memberOf, offsetOf, lengthOf, clientAnswer, clientBuffer, nextAnswer, NextBuffer};
+ghost use Rattle.reading.specs.Answers.{memberOf, clientAnswer, clientBuffer};
 
 #[no_mangle]
 pub extern "C" fn sudolog_frame_state(s: &[u8]) -> u8
@@ -85,78 +77,6 @@ pub extern "C" fn sudolog_member(message: u8, s: &[u8]) -> u64
         return member_among(s, 2, 5);
     }
     0
-}
-
-#[no_mangle]
-pub extern "C" fn sudolog_number(field: u64, s: &[u8]) -> u64
-    ensures { λ r. ⌜ r ≡ numberIn field (now (s .entry)) ⌝ }
-{
-    number_in(s, field)
-}
-
-#[no_mangle]
-pub extern "C" fn sudolog_offset(field: u64, s: &[u8]) -> u64
-    ensures { λ r. ⌜ r ≡ spanIn field (now (s .entry)) .start ⌝ }
-{
-    part_in(s, field).start as u64
-}
-
-// The length between two places, 0 where the second is not past the first.
-fn between(start: usize, end: usize) -> u64
-    ensures { λ r. ⌜ r ≡ end - start ⌝ }
-{
-    if start <= end {
-        return (end - start) as u64;
-    }
-    0
-}
-
-#[no_mangle]
-pub extern "C" fn sudolog_length(field: u64, s: &[u8]) -> u64
-    ensures { λ r. ⌜ r ≡ spanIn field (now (s .entry)) .end - spanIn field (now (s .entry)) .start ⌝ }
-{
-    let p = part_in(s, field);
-    between(p.start, p.end)
-}
-
-#[no_mangle]
-pub extern "C" fn sudolog_next_offset(field: u64, s: &[u8], at: usize) -> u64
-    ensures { λ r. ⌜ r ≡ offsetOf (firstOf field (fieldsAt (now (s .entry)) at)) ⌝ }
-{
-    match next_part(s, at, field) {
-        Found::Part { start, end: _ } => start as u64,
-        Found::Nothing => 18446744073709551615,
-    }
-}
-
-#[no_mangle]
-pub extern "C" fn sudolog_next_length(field: u64, s: &[u8], at: usize) -> u64
-    ensures { λ r. ⌜ r ≡ lengthOf (firstOf field (fieldsAt (now (s .entry)) at)) ⌝ }
-{
-    match next_part(s, at, field) {
-        Found::Part { start, end } => between(start, end),
-        Found::Nothing => 0,
-    }
-}
-
-#[no_mangle]
-pub extern "C" fn sudolog_next_number(s: &[u8], at: usize, end: usize, out: &mut [u8]) -> u8
-    ensures answer { λ r. ⌜ r ≡ nextAnswer (numbersAt (now (s .entry)) at end) (length (now (out .entry))) ⌝ }
-    ensures buffer { λ r. ⌜ NextBuffer (now (s .entry)) at end (now (out .entry)) r (now (out .exit)) ⌝ }
-{
-    match next_number(s, at, end) {
-        Next::Value {
-            value,
-            at: next,
-            end: stop,
-        } => {
-            if lay_three(out, value, next as u64, stop as u64) {
-                return 1;
-            }
-            12
-        }
-        Next::Nothing => 0,
-    }
 }
 
 #[no_mangle]

@@ -1,8 +1,8 @@
-use Rattle.reading.specs.Answers.{offsetOf}
+use Rattle.values.specs.Answers.{offsetOf}
 use mathlib.Core.Path.{sym, ap, _∙_}
 use borrow.Author.Needs.{needs}
-use Rattle.reading.proofs.sudolog_next_offset.Statement.{statement}
-use Rattle.reading.proofs.sudolog_next_offset.Tie as tie
+use Rattle.values.proofs.sudolog_next_offset.Statement.{statement}
+use Rattle.values.proofs.sudolog_next_offset.Tie as tie
 
 next-part-requires : tie.Need-next-part-requires
 next-part-requires c κs = search needs

@@ -2,8 +2,8 @@ use Prim.Native.Nat.{_-_}
 use Rattle.fields.specs.declared.Span.{Span}
 use mathlib.Core.Path.{sym, ap, _∙_}
 use borrow.Author.Needs.{needs}
-use Rattle.reading.proofs.sudolog_length.Statement.{statement}
-use Rattle.reading.proofs.sudolog_length.Tie as tie
+use Rattle.values.proofs.sudolog_length.Statement.{statement}
+use Rattle.values.proofs.sudolog_length.Tie as tie
 
 part-in-requires : tie.Need-part-in-requires
 part-in-requires c κs = search needs

@@ -1,8 +1,8 @@
 use mathlib.Core.Path.{sym, ap, _∙_}
 use Rattle.fields.specs.declared.Span.{Span}
 use borrow.Author.Needs.{needs}
-use Rattle.reading.proofs.sudolog_offset.Statement.{statement}
-use Rattle.reading.proofs.sudolog_offset.Tie as tie
+use Rattle.values.proofs.sudolog_offset.Statement.{statement}
+use Rattle.values.proofs.sudolog_offset.Tie as tie
 
 part-in-requires : tie.Need-part-in-requires
 part-in-requires c κs = search needs

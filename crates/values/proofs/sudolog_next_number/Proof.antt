@@ -1,9 +1,9 @@
-use Rattle.reading.proofs.Cursor.{none-left, no-room, number-laid}
+use Rattle.values.proofs.Cursor.{none-left, no-room, number-laid}
 use Rattle.elements.specs.Elements.{told}
 use mathlib.Core.Path.{sym, ap, _∙_}
 use borrow.Author.Needs.{needs}
-use Rattle.reading.proofs.sudolog_next_number.Statement.{statement}
-use Rattle.reading.proofs.sudolog_next_number.Tie as tie
+use Rattle.values.proofs.sudolog_next_number.Statement.{statement}
+use Rattle.values.proofs.sudolog_next_number.Tie as tie
 
 next-number-requires : tie.Need-next-number-requires
 next-number-requires c κs = search needs
