@@ -21,7 +21,8 @@ use Rattle.laws.proofs.Parts.{length-part}
 use Rattle.field.proofs.Varints as varints
 use Rattle.schema.proofs.Rows.{kinds}
 use Rattle.encoding.proofs.Walk.{lies, tag-is}
-use Rattle.walk.specs.Places.{timeSpecOf, ioBufferOf, clientOf}
+use Rattle.walk.specs.Places.{timeSpecOf, ioBufferOf}
+use Rattle.client_walk.specs.Client.{clientOf}
 use Rattle.plain.specs.Plain.{HasTag, Finds, Ends, TimeSaid, Tailed, IoSaid, IoTag, ClientSaid, withData}
 use Rattle.plain.specs.declared.Ending.{Ending}
 use Rattle.plain.specs.declared.Ending.the-variants as ending
@@ -32,11 +33,11 @@ use Rattle.plain.specs.declared.Tail.the-variants as tail
 use Rattle.plain.specs.declared.PlainIo.{PlainIo}
 use Rattle.plain.specs.declared.PlainIo.the-variants as io
 use Rattle.plain.specs.declared.PlainClient.the-variants as client
-use Rattle.walk.specs.declared.client.ClientRead.{ClientRead}
-use Rattle.walk.specs.declared.client.ClientRead.the-variants as clientread
+use Rattle.client_walk.specs.declared.ClientRead.{ClientRead}
+use Rattle.client_walk.specs.declared.ClientRead.the-variants as clientread
 use Rattle.walk.proofs.Times as times
 use Rattle.walk.proofs.Ios as ios
-use Rattle.walk.proofs.Clients as clients
+use Rattle.client_walk.proofs.Clients as clients
 
 -- a byte below 128 is a tag of one byte
 pub one-byte : (s : List ℕ) (at t : ℕ) → at < length s → t ≡ getD s at 0 → t < 128 → HasTag s at t

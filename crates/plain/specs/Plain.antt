@@ -10,10 +10,11 @@ use Rattle.field.specs.declared.varint.Varint.the-variants.{Value}
 use Rattle.field.specs.declared.payload.Payload.the-variants.{Part}
 use Rattle.fields.specs.declared.Found.{Found}
 use Rattle.fields.specs.declared.Found.the-variants as found
-use Rattle.walk.specs.Places.{timeSpecOf, ioBufferOf, clientOf}
+use Rattle.walk.specs.Places.{timeSpecOf, ioBufferOf}
+use Rattle.client_walk.specs.Client.{clientOf}
 use Rattle.walk.specs.declared.time.TimeRead.the-variants as timeread
 use Rattle.walk.specs.declared.io.IoRead.the-variants as ioread
-use Rattle.walk.specs.declared.client.ClientRead.the-variants as clientread
+use Rattle.client_walk.specs.declared.ClientRead.the-variants as clientread
 use Rattle.plain.specs.declared.Ending.{Ending}
 use Rattle.plain.specs.declared.Ending.the-variants as ending
 use Rattle.plain.specs.declared.PlainTime.{PlainTime}

@@ -1,13 +1,13 @@
 // A ClientMessage. I/O buffers have a short way, for the form in which clients send them: one member that is the whole message, a delay,
 // then the data to the end. That is nearly every message of a session. What is in another form, damaged messages too, takes the walk.
+use client_walk::ClientRead;
+use client_walk::client_walk;
 use field::payload::Payload;
 use field::payload::part_at;
 use field::varint::Varint;
 use field::varint::varint_at;
 use fields::Found;
 use laws::wide;
-use walk::client::ClientRead;
-use walk::client::client_walk;
 ghost use mathlib.Core.Path.{_≡_};
 ghost use mathlib.Core.Bool.{true};
 ghost use Prim.Native.Nat.{_<_};
@@ -15,7 +15,7 @@ ghost use lib.ListN.{length};
 ghost use Rattle.field.specs.Varint.{varintAt};
 ghost use Rattle.field.specs.Field.{partOf};
 ghost use Rattle.field.specs.declared.payload.Payload.the-variants.{Part};
-ghost use Rattle.walk.specs.Places.{clientOf};
+ghost use Rattle.client_walk.specs.Client.{clientOf};
 ghost use Rattle.plain.specs.Plain.{HasTag, Finds, Ends, TimeSaid, Tailed, IoSaid, IoTag, ClientSaid};
 
 // Is the tag at a place this one, in one byte.

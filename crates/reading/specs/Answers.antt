@@ -6,8 +6,8 @@ use Rattle.laws.specs.Base.{pick}
 use Rattle.schema.specs.Schema.{ClientMessage, InfoMessage, ServerMessage}
 use Rattle.fields.specs.Fields.{lastIn, memberFrom}
 use Rattle.numbers.specs.Eight.{laid}
-use Rattle.walk.specs.declared.client.ClientRead.{ClientRead}
-use Rattle.walk.specs.declared.client.ClientRead.the-variants as client
+use Rattle.client_walk.specs.declared.ClientRead.{ClientRead}
+use Rattle.client_walk.specs.declared.ClientRead.the-variants as client
 
 -- the member of a message that has a oneof: its fields 1 to 13, 1 to 5 or 2 to 5
 unfoldable pub memberOf : ℕ → List ℕ → ℕ

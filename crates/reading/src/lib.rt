@@ -1,6 +1,7 @@
 // What C calls to read: functions on numbers and byte slices alone. include/sudolog.h declares them and says what each one answers.
 // A `&[u8]` comes as a pointer and a length; a `&mut [u8]` is the buffer that the caller lends for more than one number.
 
+use client_walk::ClientRead;
 use fields::Last;
 use fields::between;
 use fields::last_in;
@@ -8,7 +9,6 @@ use frame::count_of;
 use frame::cut_frame;
 use frame::state_of;
 use numbers::lay_five;
-use walk::client::ClientRead;
 use wire::client_message;
 use wire::decode;
 use wire::read;
@@ -16,7 +16,7 @@ ghost use mathlib.Core.Path.{_≡_};
 ghost use lib.ListN.{length};
 ghost use Rattle.frame.specs.Frame.{cutOf, stateOf, countOf};
 ghost use Rattle.fields.specs.Fields.{lastIn, memberFrom};
-ghost use Rattle.walk.specs.Places.{clientOf};
+ghost use Rattle.client_walk.specs.Client.{clientOf};
 ghost use Rattle.wire.specs.Read.{decodeNumber, readNumber};
 ghost use Rattle.reading.specs.Answers.{memberOf, clientAnswer, clientBuffer};
 

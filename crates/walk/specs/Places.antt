@@ -1,11 +1,8 @@
 -- Where a message's values stand in its bytes, as the readers answer: numbers as they were read, and places of bytes.
 -- `Message` says what these values mean.
-use Prim.Native.Nat.{ℕ, _+_}
+use Prim.Native.Nat.{ℕ}
 use mathlib.Core.List.{List}
-use mathlib.Core.Bool.{Bool, true, false}
-use lib.Dec.{eqb}
 use Rattle.laws.specs.Base.{part}
-use Rattle.schema.specs.Schema.{kindOf}
 use Rattle.encoding.specs.Check.{checkOf}
 use Rattle.fields.specs.Fields.{numberIn, lastIn, startFrom, endFrom}
 use Rattle.fields.specs.declared.Last.{Last}
@@ -17,8 +14,6 @@ use Rattle.walk.specs.declared.time.TimeRead.{TimeRead}
 use Rattle.walk.specs.declared.time.TimeRead.the-variants as timeread
 use Rattle.walk.specs.declared.io.IoRead.{IoRead}
 use Rattle.walk.specs.declared.io.IoRead.the-variants as ioread
-use Rattle.walk.specs.declared.client.ClientRead.{ClientRead}
-use Rattle.walk.specs.declared.client.ClientRead.the-variants as client
 
 abbrev pub timeOf : List ℕ → Time
 timeOf s = record { seconds = numberIn 1 s; nanos = numberIn 2 s }
@@ -46,21 +41,3 @@ ioRead (checked.Refused r p) t l = ioread.Refused r p
 
 abbrev pub ioBufferOf : List ℕ → IoRead
 ioBufferOf s = ioRead (checkOf 6 s) (timeIn 1 s) (lastIn 2 2 s)
-
--- a member from a to e: an I/O buffer by its values, its data at the whole's places
-unfoldable pub memberRead : ℕ → ℕ → ℕ → Bool → IoRead → ClientRead
-memberRead f a e true (ioread.Fine x y b c) = client.Io f x y (a + b) (a + c)
-memberRead f a e true (ioread.Refused r p) = client.Member f a e
-memberRead f a e false i = client.Member f a e
-
-unfoldable pub clientFrom : List ℕ → Last → ClientRead
-clientFrom s last.Nothing = client.NoMember
-clientFrom s (last.Number f v) = client.NoMember
-clientFrom s (last.Part f a e) = memberRead f a e (eqb (kindOf 0 f) 22) (ioBufferOf (part s a e))
-
-unfoldable pub clientRead : Checked → ClientRead → ClientRead
-clientRead checked.Fine c = c
-clientRead (checked.Refused r p) c = client.Refused r p
-
-abbrev pub clientOf : List ℕ → ClientRead
-clientOf s = clientRead (checkOf 0 s) (clientFrom s (lastIn 1 13 s))

@@ -20,11 +20,12 @@ use Rattle.fields.specs.declared.Last.the-variants as last
 use Rattle.schema.proofs.Rows.{kinds}
 use Rattle.fields.proofs.Follow.{LastLies, last-in-lies, span-lies}
 use Rattle.fields.proofs.Items.{contentOf, last-means, bytes-means}
-use Rattle.walk.specs.Places.{timeIn, ioRead, ioBufferOf, memberRead, clientFrom, clientRead, clientOf}
+use Rattle.walk.specs.Places.{timeIn, ioRead, ioBufferOf}
+use Rattle.client_walk.specs.Client.{memberRead, clientFrom, clientRead, clientOf}
 use Rattle.walk.specs.declared.time.Time.{Time}
 use Rattle.walk.specs.declared.io.IoRead.the-variants as ioread
-use Rattle.walk.specs.declared.client.ClientRead.{ClientRead}
-use Rattle.walk.specs.declared.client.ClientRead.the-variants as client
+use Rattle.client_walk.specs.declared.ClientRead.{ClientRead}
+use Rattle.client_walk.specs.declared.ClientRead.the-variants as client
 use Rattle.message.specs.Message.{Client, clientMember, ioBuf, timed}
 use Rattle.message.specs.Places.{timeValue}
 use Rattle.message.proofs.Meaning.{time-means}

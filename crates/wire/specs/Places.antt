@@ -3,8 +3,8 @@ use Prim.Native.Nat.{ℕ}
 use mathlib.Core.List.{List}
 use Rattle.laws.specs.Base.{part}
 use Rattle.fields.specs.Items.{items}
-use Rattle.walk.specs.declared.client.ClientRead.{ClientRead}
-use Rattle.walk.specs.declared.client.ClientRead.the-variants as client
+use Rattle.client_walk.specs.declared.ClientRead.{ClientRead}
+use Rattle.client_walk.specs.declared.ClientRead.the-variants as client
 use Rattle.message.specs.Message.{Client, Server, clientMember, serverMember, ioBuf}
 use Rattle.message.specs.Places.{timeValue}
 use Rattle.wire.specs.Read.{Reading, value, refused}

@@ -1,15 +1,15 @@
 // Reading a message: the refusals in document 01's order, and the members of ClientMessage and ServerMessage. This crate, with
 // `message` for the members' values and `range` for their ranges, is what a session builds on.
+use client_walk::ClientRead;
 use encoding::check::Checked;
 use encoding::check::check;
 use fields::Last;
 use fields::last_in;
 use plain::client;
 use range::in_range;
-use walk::client::ClientRead;
 ghost use mathlib.Core.Path.{_≡_};
 ghost use Rattle.fields.specs.Items.{items, lastItem};
-ghost use Rattle.walk.specs.Places.{clientOf};
+ghost use Rattle.client_walk.specs.Client.{clientOf};
 ghost use Rattle.wire.specs.Read.{isAbsent, noMember, decodeNumber, readNumber, clientMessage, serverMessage};
 ghost use Rattle.wire.specs.Places.{clientValue, serverValue};
 

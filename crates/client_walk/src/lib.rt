@@ -1,6 +1,4 @@
-// ClientMessage.
-use crate::io::IoRead;
-use crate::io::io_buffer;
+// One walk that checks a ClientMessage and collects its member at once.
 use encoding::check::Checked;
 use encoding::check::check;
 use field::payload::Payload;
@@ -9,8 +7,10 @@ use field::tag::Tag;
 use field::tag::tag_at;
 use schema::kind_of;
 use schema::takes;
+use walk::io::IoRead;
+use walk::io::io_buffer;
 ghost use mathlib.Core.Path.{_≡_};
-ghost use Rattle.walk.specs.Places.{clientOf};
+ghost use Rattle.client_walk.specs.Client.{clientOf};
 
 // A client message: its last member, an I/O buffer by its values; or its refusal with the place.
 pub enum ClientRead {

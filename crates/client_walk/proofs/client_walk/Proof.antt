@@ -9,13 +9,13 @@ use Rattle.schema.specs.Schema.{kindOf, takes}
 use Rattle.laws.specs.Base.{part}
 use Rattle.encoding.specs.Check.{checkOf}
 use Rattle.fields.specs.Fields.{lastIn}
 use Rattle.walk.specs.Places.{timeIn}
 use Rattle.laws.proofs.Parts.{length-part}
 use Rattle.encoding.proofs.Checks.{Placed, placed}
 use Rattle.encoding.proofs.Walk.{lies, misfits, bad-tag, field-stops}
-use Rattle.walk.proofs.Clients.{Told, start, finish, stop, number-passes, fixed-passes, part-passes, inside, inside-bad, other-in, io-in, io-stops, io-lies, io-bad}
-use Rattle.walk.proofs.client.client_walk.Statement.{statement}
-use Rattle.walk.proofs.client.client_walk.Tie as tie
+use Rattle.client_walk.proofs.Clients.{Told, start, finish, stop, number-passes, fixed-passes, part-passes, inside, inside-bad, other-in, io-in, io-stops, io-lies, io-bad}
+use Rattle.client_walk.proofs.client_walk.Statement.{statement}
+use Rattle.client_walk.proofs.client_walk.Tie as tie
 
 abbrev Inv-loop : tie.InvT-loop
 Inv-loop s at₀ found₀ at found = Told s at found

@@ -15,7 +15,8 @@ use Rattle.encoding.specs.Check.{stepOf, stepAt}
 use Rattle.laws.specs.Base.{part}
 use Rattle.encoding.specs.Check.{checkAt, checkOf}
 use Rattle.fields.specs.Fields.{fieldOf, fieldsAt, among, later, lastOf, lastIn}
-use Rattle.walk.specs.Places.{timeIn, ioRead, ioBufferOf, memberRead, clientFrom, clientRead, clientOf}
+use Rattle.walk.specs.Places.{timeIn, ioRead, ioBufferOf}
+use Rattle.client_walk.specs.Client.{memberRead, clientFrom, clientRead, clientOf}
 use Rattle.fields.specs.Fields.{startFrom, endFrom}
 use Rattle.field.specs.declared.tag.Tag.the-variants as tag
 use Rattle.field.specs.declared.payload.Payload.{Payload}
@@ -27,10 +28,10 @@ use Rattle.fields.specs.declared.Field.{Field}
 use Rattle.fields.specs.declared.Field.the-variants as field
 use Rattle.fields.specs.declared.Last.{Last}
 use Rattle.fields.specs.declared.Last.the-variants as last
 use Rattle.walk.specs.declared.time.Time.{Time}
 use Rattle.walk.specs.declared.io.IoRead.the-variants as ioread
-use Rattle.walk.specs.declared.client.ClientRead.{ClientRead}
-use Rattle.walk.specs.declared.client.ClientRead.the-variants as client
+use Rattle.client_walk.specs.declared.ClientRead.{ClientRead}
+use Rattle.client_walk.specs.declared.ClientRead.the-variants as client
 use Rattle.encoding.proofs.Checks.{at-end}
 use Rattle.fields.proofs.Follow.{none, span-lies}
 use Rattle.schema.proofs.Rows.{kinds}
