@@ -2,8 +2,8 @@
 // an AlertMessage (member 3): runs are tagged entries one after the other. Lists of strings are lent as joined bytes and ends.
 use fits::both;
 use fits::member_in;
-use layout::form::listed;
-use layout::form::numbered;
+use form::listed;
+use form::numbered;
 use layout::outcome::Wrote;
 use layout::write::write_message;
 use layout::write::write_plain;

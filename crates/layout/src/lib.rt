@@ -1,5 +1,4 @@
-// The one layout that every message is written in: which pieces a form has, how long it is, and the store of all of it, with the
-// frame and the member around it. These functions are the writers' own: a `requires` here is shown by each writer.
-pub mod form;
+// Every message is written here, from its form: the store of all of it, with the frame and the member around it. These functions are the
+// writers' own: a `requires` here is shown by each writer.
 pub mod outcome;
 pub mod write;

@@ -1,7 +1,7 @@
 use borrow.Author.Tests.{not-true, not-false}
 use Rattle.layout.proofs.Outcomes.{run-refused, out-of-range, no-room, written, room-fits, like-wrapped, put-wrapped}
-use Rattle.layout.proofs.Forms.{middle-least}
-use Rattle.layout.specs.Form.{firstPieces, lastPieces, middle, formPieces}
+use Rattle.form.proofs.Forms.{middle-least}
+use Rattle.form.specs.Form.{firstPieces, lastPieces, middle, formPieces}
 use Rattle.pieces.proofs.Lengths.{like-exact, like-within}
 use Rattle.pieces.specs.Put.{Like}
 use Rattle.written.specs.Pieces.{Piece, encodeAll}

@@ -22,7 +22,7 @@ ghost use Rattle.message.specs.Message.{Bytes};
 ghost use Rattle.written.specs.Pieces.{encodeAll};
 ghost use Rattle.written.specs.Draft.{badEnds};
 ghost use Rattle.pieces.specs.Put.{Put, Like};
-ghost use Rattle.layout.specs.Form.{timedForm, numberedForm, listedForm, firstPieces, middle, lastPieces, formPieces};
+ghost use Rattle.form.specs.Form.{timedForm, numberedForm, listedForm, firstPieces, middle, lastPieces, formPieces};
 
 pub struct Form {
     // the field number of its TimeSpec

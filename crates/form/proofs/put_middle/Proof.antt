@@ -1,6 +1,6 @@
 use Rattle.pieces.proofs.Fields.{text-least}
 use Rattle.pieces.proofs.Puts.{then}
-use Rattle.layout.specs.Form.{middle}
+use Rattle.form.specs.Form.{middle}
 use Rattle.written.specs.Draft.{cutAt}
 use Rattle.written.specs.Pieces.{elements, text, encode, packed}
 use lib.ListN.{length, length-append}
@@ -9,8 +9,8 @@ use mathlib.Core.Path.{_≡_}
 use Prim.Native.Nat.{_+_}
 use native.Mathlib.Omega.{arith}
 use borrow.Author.Needs.{needs}
-use Rattle.layout.proofs.form.put_middle.Statement.{statement}
-use Rattle.layout.proofs.form.put_middle.Tie as tie
+use Rattle.form.proofs.put_middle.Statement.{statement}
+use Rattle.form.proofs.put_middle.Tie as tie
 
 -- how long the middle is
 sizes : (c : tie.Start) → let a = c .args in length (middle (a .f) (a .joined .now) (a .ends .now) (a .numbers .now) (a .d .now)) ≡ length (elements (a .f) (cutAt (a .joined .now) 0 (a .ends .now))) + (length (encode (text 1 (packed (a .numbers .now)))) + length (a .d .now))

@@ -1,7 +1,7 @@
 use Rattle.pieces.proofs.Lengths.{like-append}
 use borrow.Author.Needs.{needs}
-use Rattle.layout.proofs.form.len_middle.Statement.{statement}
-use Rattle.layout.proofs.form.len_middle.Tie as tie
+use Rattle.form.proofs.len_middle.Statement.{statement}
+use Rattle.form.proofs.len_middle.Tie as tie
 
 len-list-requires : tie.Need-len-list-requires
 len-list-requires c κs = c .before .before .before .before .pre

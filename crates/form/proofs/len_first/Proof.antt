@@ -1,10 +1,10 @@
-use Rattle.layout.proofs.Forms.{like-piece}
+use Rattle.form.proofs.Forms.{like-piece}
 use Rattle.pieces.specs.Put.{timePiece, numberPiece, stamp}
 use Rattle.written.specs.Pieces.{some}
 use Rattle.pieces.proofs.Lengths.{like-append, like-end}
 use borrow.Author.Needs.{needs}
-use Rattle.layout.proofs.form.len_first.Statement.{statement}
-use Rattle.layout.proofs.form.len_first.Tie as tie
+use Rattle.form.proofs.len_first.Statement.{statement}
+use Rattle.form.proofs.len_first.Tie as tie
 
 len-text-requires : tie.Need-len-text-requires
 len-text-requires c κs = search needs

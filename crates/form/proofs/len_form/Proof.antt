@@ -1,8 +1,8 @@
-use Rattle.layout.proofs.Forms.{like-between}
-use Rattle.layout.specs.Form.{firstPieces, lastPieces}
+use Rattle.form.proofs.Forms.{like-between}
+use Rattle.form.specs.Form.{firstPieces, lastPieces}
 use borrow.Author.Needs.{needs}
-use Rattle.layout.proofs.form.len_form.Statement.{statement}
-use Rattle.layout.proofs.form.len_form.Tie as tie
+use Rattle.form.proofs.len_form.Statement.{statement}
+use Rattle.form.proofs.len_form.Tie as tie
 
 len-first-requires : tie.Need-len-first-requires
 len-first-requires c κs = search needs

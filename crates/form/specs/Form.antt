@@ -6,7 +6,7 @@ use Rattle.message.specs.Message.{Bytes}
 use Rattle.written.specs.Pieces.{Piece, some, text, run, elements, encode, packed}
 use Rattle.written.specs.Draft.{cutAt}
 use Rattle.pieces.specs.Put.{numberPiece, timePiece, stamp, around}
-use Rattle.layout.specs.declared.form.Form.{Form}
+use Rattle.form.specs.declared.Form.{Form}
 
 abbrev pub timedForm : ℕ → ℕ → ℕ → ℕ → ℕ → Form
 timedForm time seconds nanos two three =

@@ -1,5 +1,5 @@
-use Rattle.layout.proofs.Forms.{length-between, put-between}
-use Rattle.layout.specs.Form.{firstPieces, middle, lastPieces, formPieces}
+use Rattle.form.proofs.Forms.{length-between, put-between}
+use Rattle.form.specs.Form.{firstPieces, middle, lastPieces, formPieces}
 use Rattle.pieces.specs.Put.{cover}
 use Rattle.written.specs.Pieces.{encodeAll}
 use lib.ListN.{length}
@@ -7,8 +7,8 @@ use mathlib.Core.Path.{_≡_}
 use Prim.Native.Nat.{_+_}
 use native.Mathlib.Omega.{arith}
 use borrow.Author.Needs.{needs}
-use Rattle.layout.proofs.form.put_form.Statement.{statement}
-use Rattle.layout.proofs.form.put_form.Tie as tie
+use Rattle.form.proofs.put_form.Statement.{statement}
+use Rattle.form.proofs.put_form.Tie as tie
 
 -- how long the whole is
 sizes : (c : tie.Start) → let a = c .args in length (encodeAll (formPieces (a .p) (a .t1 .now) (a .t2 .now) (middle (a .p .list) (a .joined .now) (a .ends .now) (a .numbers .now) (a .d .now)) (a .t4 .now) (a .t5 .now))) ≡ length (encodeAll (firstPieces (a .p) (a .t1 .now) (a .t2 .now))) + (length (cover (a .p .inner) (a .n)) + a .n + length (encodeAll (lastPieces (a .p) (a .t4 .now) (a .t5 .now))))

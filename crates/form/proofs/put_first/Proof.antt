@@ -1,8 +1,8 @@
 use Rattle.pieces.proofs.Puts.{then, end, Room, first, rest}
-use Rattle.layout.specs.Form.{firstPieces}
+use Rattle.form.specs.Form.{firstPieces}
 use borrow.Author.Needs.{needs}
-use Rattle.layout.proofs.form.put_first.Statement.{statement}
-use Rattle.layout.proofs.form.put_first.Tie as tie
+use Rattle.form.proofs.put_first.Statement.{statement}
+use Rattle.form.proofs.put_first.Tie as tie
 
 -- at the first piece: there is room for all
 room : (c : tie.Start) → Room (c .args .out .now) (c .args .at) (firstPieces (c .args .p) (c .args .t1 .now) (c .args .t2 .now))

@@ -1,9 +1,9 @@
-use Rattle.layout.proofs.Forms.{like-piece}
+use Rattle.form.proofs.Forms.{like-piece}
 use Rattle.written.specs.Pieces.{some}
 use Rattle.pieces.proofs.Lengths.{like-append, like-end}
 use borrow.Author.Needs.{needs}
-use Rattle.layout.proofs.form.len_last.Statement.{statement}
-use Rattle.layout.proofs.form.len_last.Tie as tie
+use Rattle.form.proofs.len_last.Statement.{statement}
+use Rattle.form.proofs.len_last.Tie as tie
 
 len-number-requires : tie.Need-len-number-requires
 len-number-requires c κs = search needs

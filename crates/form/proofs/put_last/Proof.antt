@@ -1,8 +1,8 @@
 use Rattle.pieces.proofs.Puts.{then, end, Room, first, rest}
-use Rattle.layout.specs.Form.{lastPieces}
+use Rattle.form.specs.Form.{lastPieces}
 use borrow.Author.Needs.{needs}
-use Rattle.layout.proofs.form.put_last.Statement.{statement}
-use Rattle.layout.proofs.form.put_last.Tie as tie
+use Rattle.form.proofs.put_last.Statement.{statement}
+use Rattle.form.proofs.put_last.Tie as tie
 
 -- at the first piece: there is room for all
 room : (c : tie.Start) → Room (c .args .out .now) (c .args .at) (lastPieces (c .args .p) (c .args .t4 .now) (c .args .t5 .now))
