@@ -11,7 +11,8 @@ use borrow.Author.Tests.{lt-ltb, le-leb}
 use Rattle.laws.specs.Base.{pick}
 use Rattle.message.specs.Signed.{signed, int64, int32}
 use Rattle.message.specs.Message.{Bytes, Restart}
-use Rattle.range.specs.Range.{upTo, sized, dateFits, momentFits, restartFits}
+use Rattle.limits.specs.Limits.{upTo, sized, dateFits, momentFits}
+use Rattle.range.specs.Range.{restartFits}
 use Rattle.wire.specs.Read.{value, clientMessage}
 use Rattle.written.specs.Pieces.{Piece, some, bytes, text, varint, varintFrom, head, encode, encodeAll}
 use Rattle.written.specs.Draft as w

@@ -13,7 +13,8 @@ use Rattle.laws.specs.Base.{pick, both}
 use Rattle.laws.proofs.Order.{both-true}
 use Rattle.message.specs.Message.{Bytes, TimeSpec, Timed, WindowSize, Exit}
 use Rattle.range.specs.Range as g
-use Rattle.range.specs.Range.{upTo, sized, dateFits, momentFits, ioFits, windowFits, suspendFits}
+use Rattle.limits.specs.Limits.{upTo, sized, dateFits, momentFits}
+use Rattle.range.specs.Range.{ioFits, windowFits, suspendFits}
 use Rattle.record.specs.Digits.{digits, value}
 use Rattle.record.specs.Record as k
 use Rattle.record.specs.Record.{second, Record, windowBytes, exitBytes, isTimed, timedFits}

@@ -1,47 +1,14 @@
 -- The ranges of document 01's table, as a step of their own: a reader by itself asks them after 2 to 6, a session after 9 and 15.
 -- Only the values that count are asked, not the overwritten ones.
 use Prim.Native.Nat.{ℕ, _-_}
-use mathlib.Core.List.{List, [], _∷_}
-use mathlib.Core.Bool.{Bool, true, false}
-use lib.IntN.{ℤ, pos, negsuc}
-use lib.ListN.{length}
-use lib.Dec.{leb, eqb}
+use mathlib.Core.List.{List}
+use mathlib.Core.Bool.{Bool, true}
+use lib.Dec.{eqb}
 use Rattle.laws.specs.Base.{pick, both}
 use Rattle.schema.specs.Schema.{kindOf, message, ClientMessage, AcceptMessage, RejectMessage, ExitMessage, RestartMessage, AlertMessage, IoBuffer, ChangeWindowSize, CommandSuspend, InfoMessage, ServerMessage}
 use Rattle.fields.specs.Items.{Item, none, number, bytes, items, lastItem}
-use Rattle.message.specs.Message.{TimeSpec, Value, absent, numval, strval, strlistval, numlistval, Entry, Accept, Report, Exit, Restart, Timed, WindowSize, timeSpec, entry, accept, report, exit, restart, timed, windowSize}
-
--- 0 to hi
-unfoldable pub upTo : ℕ → ℤ → Bool
-upTo hi (pos n) = leb n hi
-upTo hi (negsuc n) = false
-
--- from lo to hi bytes
-unfoldable pub sized : ℕ → ℕ → List ℕ → Bool
-sized lo hi d = both (leb lo (length d)) (leb (length d) hi)
-
--- submit_time, alert_time: "any seconds; nanoseconds as above"
-unfoldable pub dateFits : TimeSpec → Bool
-dateFits t = upTo 999999999 (t .nanoseconds)
-
--- delay, run_time, resume_point, commit_point: "seconds 0 to 4,294,967,295; nanoseconds 0 to 999,999,999"
-unfoldable pub momentFits : TimeSpec → Bool
-momentFits t = both (upTo 4294967295 (t .seconds)) (dateFits t)
-
-unfoldable pub isSet : Value → Bool
-isSet absent = false
-isSet (numval n) = true
-isSet (strval d) = true
-isSet (strlistval l) = true
-isSet (numlistval l) = true
-
--- InfoMessage: "key not empty, a value set"
-unfoldable pub entryFits : Entry → Bool
-entryFits e = both (leb 1 (length (e .key))) (isSet (e .value))
-
-unfoldable pub entriesFit : List Entry → Bool
-entriesFit [] = true
-entriesFit (e ∷ es) = both (entryFits e) (entriesFit es)
+use Rattle.message.specs.Message.{Accept, Report, Exit, Restart, Timed, WindowSize, timeSpec, entry, accept, report, exit, restart, timed, windowSize}
+use Rattle.limits.specs.Limits.{upTo, sized, dateFits, momentFits, entryFits, entriesFit}
 
 unfoldable pub acceptFits : Accept → Bool
 acceptFits a = both (dateFits (a .submitTime)) (entriesFit (a .infoMsgs))

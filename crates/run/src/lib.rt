@@ -5,7 +5,7 @@ use field::payload::Payload;
 use field::payload::payload_at;
 use field::tag::Tag;
 use field::tag::tag_at;
-use range::entries_fit;
+use limits::entries_fit;
 ghost use mathlib.Core.Path.{_≡_};
 ghost use Rattle.written.specs.Run.{runAt, runRefusal};
 ghost use Rattle.run.specs.Entry.{entryAt};

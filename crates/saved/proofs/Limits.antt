@@ -14,7 +14,8 @@ use Rattle.laws.specs.Base.{both}
 use Rattle.laws.proofs.Order.{picked, both-true, lt-or-le}
 use Rattle.fields.specs.Items.{items, lastItem, bytesOf}
 use Rattle.message.specs.Message.{Bytes, TimeSpec, Accept, Exit, Restart, Client, acceptMsg, rejectMsg, exitMsg, restartMsg, alertMsg, ioBuf, winsizeEvent, suspendEvent, helloMsg}
-use Rattle.range.specs.Range.{upTo, dateFits, momentFits, acceptFits, reportFits, exitFits, restartFits, ioFits, windowFits, suspendFits}
+use Rattle.limits.specs.Limits.{upTo, dateFits, momentFits}
+use Rattle.range.specs.Range.{acceptFits, reportFits, exitFits, restartFits, ioFits, windowFits, suspendFits}
 use Rattle.wire.specs.Read.{Reading, value, refused, clientMessage}
 use Rattle.record.specs.Record.{Record, recordBytes}
 use Rattle.record.specs.File.{limit, Records, all, none, recordsOf, fileBytes, total, lowTotal, FileKind, invalid, unfinished, finished, recordsKind, meets, keep}

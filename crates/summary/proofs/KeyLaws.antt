@@ -13,7 +13,7 @@ use Rattle.encoding.specs.Entry.{Holds}
 use Rattle.fields.specs.Items.{bytes, itemOf, items}
 use Rattle.fields.specs.declared.Field.{Field}
 use Rattle.message.specs.Message.{Bytes, Value, absent, numval, strval, strlistval, numlistval, Entry, entry}
-use Rattle.range.specs.Range.{isSet, entryFits}
+use Rattle.limits.specs.Limits.{isSet, entryFits}
 use Rattle.required.specs.Required.{sameBytes, keyBytes, stringOrNone}
 use Rattle.summary.specs.Summary.{isMet, isString, EntrySeen, KeySeen}
 use Rattle.summary.specs.declared.Keys.{Keys}

@@ -24,7 +24,8 @@ use Rattle.encoding.proofs.Entries.{tagged}
 use Rattle.elements.specs.Elements.{itemsAt}
 use Rattle.message.specs.Signed.{signed, int32, bool}
 use Rattle.message.specs.Message.{Bytes, Entry, timeSpec, timeField, entry, entries, accept}
-use Rattle.range.specs.Range.{upTo, dateFits, entriesFit, acceptFits, bodyFits}
+use Rattle.limits.specs.Limits.{upTo, dateFits, entriesFit}
+use Rattle.range.specs.Range.{acceptFits, bodyFits}
 use Rattle.required.specs.Required.{sameBytes, keyBytes, lastValue, stringOrNone, typesFrom, has, missingFrom, entriesRefusal}
 use Rattle.summary.specs.Summary.{isMet, Passed, EntrySeen, Summarised}
 use Rattle.summary.specs.declared.Keys.{Keys}

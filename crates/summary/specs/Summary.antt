@@ -9,7 +9,8 @@ use Rattle.laws.specs.Base.{pick}
 use Rattle.schema.specs.Schema.{AcceptMessage}
 use Rattle.fields.specs.Items.{items}
 use Rattle.message.specs.Message.{Bytes, Value, absent, numval, strval, strlistval, numlistval, Entry, entries, accept}
-use Rattle.range.specs.Range.{entryFits, bodyFits}
+use Rattle.limits.specs.Limits.{entryFits}
+use Rattle.range.specs.Range.{bodyFits}
 use Rattle.required.specs.Required.{sameBytes, keyBytes, stringOrNone, entriesRefusal}
 use Rattle.summary.specs.declared.Keys.{Keys}
 use Rattle.summary.specs.declared.Seen.{Seen}

@@ -16,7 +16,7 @@ ghost use lib.ListN.{length};
 ghost use Rattle.laws.specs.Base.{pick, part};
 ghost use Rattle.fields.specs.Items.{items};
 ghost use Rattle.message.specs.Message as m;
-ghost use Rattle.range.specs.Range.{dateFits, isSet};
+ghost use Rattle.limits.specs.Limits.{dateFits, isSet};
 ghost use Rattle.required.specs.Required.{sameBytes, keyBytes};
 ghost use Rattle.summary.specs.Summary.{isMet, isString, EntrySeen, KeySeen, Summarised};
 

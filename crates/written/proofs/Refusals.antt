@@ -27,7 +27,7 @@ use Rattle.encoding.specs.declared.check.Checked.{Checked}
 use Rattle.encoding.specs.declared.check.Checked.the-variants as checked
 use Rattle.message.specs.Message as m
 use Rattle.message.specs.Message.{Bytes, entry, entries}
-use Rattle.range.specs.Range.{isSet, entryFits, entriesFit}
+use Rattle.limits.specs.Limits.{isSet, entryFits, entriesFit}
 use Rattle.wire.specs.Read.{checkNumber}
 use Rattle.written.specs.Draft.{EntryDraft, numval, strval, strlistval, numlistval, meantValue}
 use Rattle.written.specs.Run.{onEntry, onTag, runFrom, runAt, runRefusal}

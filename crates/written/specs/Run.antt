@@ -18,7 +18,7 @@ use Rattle.field.specs.declared.payload.Payload.the-variants as payload
 use Rattle.encoding.specs.declared.check.Checked.{Checked}
 use Rattle.encoding.specs.declared.check.Checked.the-variants as checked
 use Rattle.message.specs.Message.{entries}
-use Rattle.range.specs.Range.{entriesFit}
+use Rattle.limits.specs.Limits.{entriesFit}
 use Rattle.wire.specs.Read.{checkNumber}
 
 -- an entry's value, and the check `go` of what follows it: an InfoMessage, read within its own bytes

@@ -1,4 +1,5 @@
-use Rattle.range.specs.Range.{exitFits, sized}
+use Rattle.range.specs.Range.{exitFits}
+use Rattle.limits.specs.Limits.{sized}
 use Rattle.message.specs.Message.{exit}
 use lib.Dec.{leb·zero}
 use mathlib.Core.Path.{sym, ap, _∙_}

@@ -1,4 +1,5 @@
-use Rattle.range.specs.Range.{restartFits, sized}
+use Rattle.range.specs.Range.{restartFits}
+use Rattle.limits.specs.Limits.{sized}
 use Rattle.message.specs.Message.{restart}
 use borrow.Author.Tests.{le-leb, lt-leb}
 use mathlib.Core.Path.{sym, _∙_}

@@ -1,4 +1,5 @@
-use Rattle.range.specs.Range.{suspendFits, sized}
+use Rattle.range.specs.Range.{suspendFits}
+use Rattle.limits.specs.Limits.{sized}
 use Rattle.message.specs.Message.{timed}
 use borrow.Author.Tests.{le-leb, lt-leb}
 use mathlib.Core.Path.{sym, _∙_}

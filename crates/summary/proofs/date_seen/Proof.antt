@@ -4,8 +4,8 @@ use lib.Dec.{lit≤}
 use Rattle.message.specs.Message.{TimeSpec}
 use Rattle.message.specs.Places.{timeValue}
 use Rattle.message.specs.Signed.{int32}
-use Rattle.range.specs.Range.{dateFits}
-use Rattle.range.proofs.Signs.{up-to}
+use Rattle.limits.specs.Limits.{dateFits}
+use Rattle.limits.proofs.Signs.{up-to}
 use borrow.Author.Needs.{needs}
 use Rattle.summary.proofs.date_seen.Statement.{statement}
 use Rattle.summary.proofs.date_seen.Tie as tie

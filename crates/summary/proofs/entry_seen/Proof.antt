@@ -3,7 +3,7 @@ use Rattle.encoding.specs.Entry.{Formed}
 use Rattle.fields.specs.Fields.{among}
 use Rattle.fields.specs.Items.{lastFrom, bytesOf}
 use Rattle.message.specs.Message.{entry, valueOf}
-use Rattle.range.specs.Range.{isSet}
+use Rattle.limits.specs.Limits.{isSet}
 use Rattle.summary.specs.Summary.{isString, EntrySeen}
 use Rattle.summary.proofs.KeyLaws.{by-value}
 use borrow.Author.Needs.{needs}

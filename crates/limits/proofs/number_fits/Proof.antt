@@ -1,11 +1,11 @@
-use Rattle.range.proofs.Signs.{up-to}
+use Rattle.limits.proofs.Signs.{up-to}
 use Rattle.fields.proofs.Items.{number-means}
 use Rattle.message.specs.Signed.{int32}
 use Prim.Native.Nat.{_%_}
 use mathlib.Core.Path.{sym, _∙_}
 use borrow.Author.Needs.{needs}
-use Rattle.range.proofs.number_fits.Statement.{statement}
-use Rattle.range.proofs.number_fits.Tie as tie
+use Rattle.limits.proofs.number_fits.Statement.{statement}
+use Rattle.limits.proofs.number_fits.Tie as tie
 
 number-in-requires : tie.Need-number-in-requires
 number-in-requires c κs = search needs

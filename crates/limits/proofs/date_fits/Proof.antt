@@ -1,12 +1,12 @@
-use Rattle.range.proofs.Signs.{up-to}
-use Rattle.range.specs.Range.{dateFits}
+use Rattle.limits.proofs.Signs.{up-to}
+use Rattle.limits.specs.Limits.{dateFits}
 use Rattle.message.specs.Places.{timeValue}
 use Rattle.message.specs.Signed.{int32}
 use Prim.Native.Nat.{_%_}
 use lib.Dec.{lit≤}
 use mathlib.Core.Path.{sym}
-use Rattle.range.proofs.date_fits.Statement.{statement}
-use Rattle.range.proofs.date_fits.Tie as tie
+use Rattle.limits.proofs.date_fits.Statement.{statement}
+use Rattle.limits.proofs.date_fits.Tie as tie
 
 returns : tie.Need-returns
 unfolding dateFits timeValue int32

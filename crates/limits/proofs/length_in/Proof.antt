@@ -6,8 +6,8 @@ use lib.ListN.{length}
 use native.Mathlib.Omega.{arith}
 use mathlib.Core.Path.{_≡_, refl, sym, ap, subst, _∙_}
 use borrow.Author.Needs.{needs}
-use Rattle.range.proofs.length_in.Statement.{statement}
-use Rattle.range.proofs.length_in.Tie as tie
+use Rattle.limits.proofs.length_in.Statement.{statement}
+use Rattle.limits.proofs.length_in.Tie as tie
 
 part-in-requires : tie.Need-part-in-requires
 part-in-requires c κs = search needs

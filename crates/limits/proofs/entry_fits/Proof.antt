@@ -1,10 +1,10 @@
-use Rattle.range.specs.Range.{entryFits}
+use Rattle.limits.specs.Limits.{entryFits}
 use Rattle.message.specs.Message.{entry}
 use borrow.Author.Tests.{le-leb, lt-leb}
 use mathlib.Core.Path.{_∙_}
 use borrow.Author.Needs.{needs}
-use Rattle.range.proofs.entry_fits.Statement.{statement}
-use Rattle.range.proofs.entry_fits.Tie as tie
+use Rattle.limits.proofs.entry_fits.Statement.{statement}
+use Rattle.limits.proofs.entry_fits.Tie as tie
 
 length-in-requires : tie.Need-length-in-requires
 length-in-requires c κs = search needs

@@ -1,4 +1,4 @@
-use Rattle.range.specs.Range.{entriesFit}
+use Rattle.limits.specs.Limits.{entriesFit}
 use Rattle.message.specs.Message.{Bytes, entry, entries}
 use Rattle.elements.proofs.Elements.{all-elements, found-none, found-part, found-lies}
 use Rattle.elements.specs.Elements.{elementsAt}
@@ -9,8 +9,8 @@ use Prim.Native.Nat.{_-_}
 use borrow.Author.Needs.{needs}
 use native.Mathlib.Omega.{arith}
 use mathlib.Core.Path.{_≡_, refl, sym, ap, subst, _∙_}
-use Rattle.range.proofs.entries_fit.Statement.{statement}
-use Rattle.range.proofs.entries_fit.Tie as tie
+use Rattle.limits.proofs.entries_fit.Statement.{statement}
+use Rattle.limits.proofs.entries_fit.Tie as tie
 
 abbrev Inv-loop : tie.InvT-loop
 Inv-loop s number at₀ at = entriesFit (map (λ (d : Bytes). entry (items d)) (elementsAt number s at)) ≡ entriesFit (entries number (items s))

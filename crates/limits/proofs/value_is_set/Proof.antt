@@ -1,9 +1,9 @@
-use Rattle.range.specs.Range.{isSet}
+use Rattle.limits.specs.Limits.{isSet}
 use Rattle.message.specs.Places.{valueAt}
 use mathlib.Core.Path.{sym, ap, _∙_}
 use borrow.Author.Needs.{needs}
-use Rattle.range.proofs.value_is_set.Statement.{statement}
-use Rattle.range.proofs.value_is_set.Tie as tie
+use Rattle.limits.proofs.value_is_set.Statement.{statement}
+use Rattle.limits.proofs.value_is_set.Tie as tie
 
 value-in-requires : tie.Need-value-in-requires
 value-in-requires c κs = search needs

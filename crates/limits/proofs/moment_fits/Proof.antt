@@ -1,13 +1,13 @@
-use Rattle.range.proofs.Signs.{up-to}
-use Rattle.range.specs.Range.{momentFits}
+use Rattle.limits.proofs.Signs.{up-to}
+use Rattle.limits.specs.Limits.{momentFits}
 use Rattle.message.specs.Places.{timeValue}
 use Rattle.message.specs.Signed.{int64}
 use borrow.Author.Tests.{le-leb, lt-leb}
 use lib.Dec.{lit≤}
 use mathlib.Core.Path.{sym, _∙_}
 use borrow.Author.Needs.{needs}
-use Rattle.range.proofs.moment_fits.Statement.{statement}
-use Rattle.range.proofs.moment_fits.Tie as tie
+use Rattle.limits.proofs.moment_fits.Statement.{statement}
+use Rattle.limits.proofs.moment_fits.Tie as tie
 
 date-fits-requires : tie.Need-date-fits-requires
 date-fits-requires c κs = search needs
