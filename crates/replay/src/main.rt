@@ -1,5 +1,7 @@
 // Replays a recorded client stream: reads it from standard input and prints, for each frame, what a session over one area
-// answers. What is decided and what is printed stands in `report` and `wording`, proved; here bytes come in and lines go out.
+// answers. What is decided and what is printed stands in `report`, `wording` and `ending`, proved; here bytes come in and lines go out.
+use ending::End;
+use ending::end_line;
 use libc::STDIN_FILENO;
 use libc::STDOUT_FILENO;
 use report::Replay;
@@ -7,8 +9,6 @@ use report::start;
 use report::turn;
 use report::window::Next;
 use report::window::slide;
-use wording::End;
-use wording::end_line;
 ghost use Prim.Native.Nat.{_≤_};
 ghost use lib.ListN.{length};
 

@@ -9,8 +9,9 @@ use Rattle.frame.specs.declared.Cut.{Cut}
 use Rattle.frame.specs.declared.Cut.the-variants as cut
 use Rattle.session.specs.Step.{Outcome, step, opened}
 use Rattle.words.specs.Words.{memberOf}
-use Rattle.wording.specs.Wording.{frameLine, endLine}
-use Rattle.wording.specs.declared.End.the-variants as end
+use Rattle.wording.specs.Wording.{frameLine}
+use Rattle.ending.specs.Ending.{endLine}
+use Rattle.ending.specs.declared.End.the-variants as end
 use Rattle.report.specs.declared.window.Next.{Next}
 use Rattle.report.specs.declared.window.Next.the-variants.{Wait, Frame, Beyond, Refused}
 use Rattle.report.specs.declared.Replay.{Replay}

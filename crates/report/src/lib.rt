@@ -1,12 +1,12 @@
 // What the replay program does with the bytes at hand, and the lines that it prints. The program itself only reads, writes and
 // moves its window on.
 use collector::message;
+use ending::End;
+use ending::end_line;
 use session::Session;
 use session::open;
 use window::Next;
 use window::decide;
-use wording::End;
-use wording::end_line;
 use wording::frame_line;
 ghost use mathlib.Core.Path.{_≡_};
 ghost use Prim.Native.Nat.{_≤_};

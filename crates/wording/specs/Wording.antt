@@ -1,4 +1,4 @@
--- What `replay` prints, as bytes. Texts in quotes are issue 6's wording.
+-- The line that `replay` prints of a frame, as bytes. Texts in quotes are issue 6's wording.
 use Prim.Native.Nat.{ℕ, _/_, _%_}
 use mathlib.Core.List.{List, [], _++_}
 use mathlib.Core.Bool.{Bool}
@@ -10,8 +10,6 @@ use Rattle.session.specs.declared.State.{State}
 use Rattle.session.specs.declared.Point.{Point}
 use Rattle.session.specs.declared.Point.the-variants as point
 use Rattle.words.specs.Words.{text, decimal, nine, memberName, stateName}
-use Rattle.wording.specs.declared.End.{End}
-use Rattle.wording.specs.declared.End.the-variants as end
 
 -- ---- the line of a frame
 
@@ -44,18 +42,6 @@ frameLine n m o =
     ++ pointText (o .point)
     ++ keyText (o .refusal) (o .key)
     ++ text "\n"
-
--- ---- the last line
-
-unfoldable pub ending : End → List ℕ
-ending (end.Input left) = pick (eqb left 0) [] (text ", " ++ decimal left ++ text " bytes left over")
-ending (end.Beyond size window) =
-    text ", then a frame of " ++ decimal size ++ text " bytes, beyond the window of " ++ decimal window
-ending end.Refused = text ", then refused 1"
-ending end.Unread = text ", then the input could not be read"
-
-unfoldable pub endLine : ℕ → End → List ℕ
-endLine n e = text "end: " ++ decimal n ++ text " frames" ++ ending e ++ text "\n"
 
 -- ---- a line in a lent buffer
 

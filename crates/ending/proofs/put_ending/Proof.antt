@@ -1,10 +1,10 @@
-use Rattle.wording.specs.Wording.{ending}
+use Rattle.ending.specs.Ending.{ending}
 use borrow.Author.Tests.{eq-eqb, ne-eqb}
 use native.Mathlib.Omega.{arith}
 use Rattle.pieces.proofs.Puts.{then, nothing}
 use borrow.Author.Needs.{needs}
-use Rattle.wording.proofs.put_ending.Statement.{statement}
-use Rattle.wording.proofs.put_ending.Tie as tie
+use Rattle.ending.proofs.put_ending.Statement.{statement}
+use Rattle.ending.proofs.put_ending.Tie as tie
 
 enum-known-end : tie.Need-enum-known-end
 enum-known-end c = search needs

@@ -1,8 +1,9 @@
 -- Each line computes to the one that issue 6 gives. Assumes nothing.
 use mathlib.Core.Path.{refl}
-use Rattle.wording.specs.Examples.{LineExamples}
+use Rattle.ending.specs.Examples.{LineExamples}
 use Rattle.words.specs.Words.{digits, decimal, memberName, stateName}
-use Rattle.wording.specs.Wording.{verdict, pointText, keyText, frameLine, ending, endLine}
+use Rattle.wording.specs.Wording.{verdict, pointText, keyText, frameLine}
+use Rattle.ending.specs.Ending.{ending, endLine}
 
 pub line-examples : LineExamples
 unfolding digits decimal memberName stateName verdict pointText keyText frameLine ending endLine

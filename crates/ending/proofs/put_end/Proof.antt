@@ -1,8 +1,8 @@
-use Rattle.wording.specs.Wording.{endLine}
+use Rattle.ending.specs.Ending.{endLine}
 use Rattle.pieces.proofs.Puts.{then}
 use borrow.Author.Needs.{needs}
-use Rattle.wording.proofs.put_end.Statement.{statement}
-use Rattle.wording.proofs.put_end.Tie as tie
+use Rattle.ending.proofs.put_end.Statement.{statement}
+use Rattle.ending.proofs.put_end.Tie as tie
 
 slice-aggregate-put-raw : tie.Need-slice-aggregate-put-raw
 slice-aggregate-put-raw c = search needs

@@ -9,8 +9,9 @@ use Rattle.session.specs.declared.Mark.the-variants as mark
 use Rattle.session.specs.declared.Point.{Point}
 use Rattle.session.specs.declared.Point.the-variants as point
 use Rattle.words.specs.Words.{text}
-use Rattle.wording.specs.Wording.{frameLine, endLine}
-use Rattle.wording.specs.declared.End.the-variants as end
+use Rattle.wording.specs.Wording.{frameLine}
+use Rattle.ending.specs.Ending.{endLine}
+use Rattle.ending.specs.declared.End.the-variants as end
 
 -- an answer, by what a line tells of it
 abbrev pub answer : ℕ → ℕ → Point → State → ℕ → Outcome

@@ -1,7 +1,7 @@
 use Rattle.wording.proofs.Lines.{room, no-room}
 use borrow.Author.Needs.{needs}
-use Rattle.wording.proofs.end_line.Statement.{statement}
-use Rattle.wording.proofs.end_line.Tie as tie
+use Rattle.ending.proofs.end_line.Statement.{statement}
+use Rattle.ending.proofs.end_line.Tie as tie
 
 put-end-requires : tie.Need-put-end-requires
 put-end-requires c κs = search needs
