@@ -7,7 +7,8 @@
  * any pointer but NULL; the readers in the second part take NULL too, and for the writers sudolog_lend and
  * its like make a pointer of NULL. The functions that give values are meant for slices that sudolog_decode
  * or sudolog_read takes; of any other slice they give those of the fields before the first that can't be
- * read. A message number above 15 names a message with no fields: all are skipped.
+ * read. Message number 16 names what a packed list of numbers holds, varints and no fields; a number above
+ * 16 a message with no fields: all are skipped.
  *
  * The second part is written over the first, in C: a struct for each message of sudo_logsrv.proto and
  * a reader that fills it, and what a C program needs beside the writers.

@@ -440,6 +440,17 @@ static void longer_forms_are_read(void)
     CHECK(is_time(buffer.delay, 1, 0) && is_text(in, buffer.data, "x"));
 }
 
+/* ---- message numbers without a message ---- */
+
+/* 16 is what a packed list holds, varints; a number above it a message without fields. */
+static void numbers_above_the_messages(void)
+{
+    static const uint8_t bad_tag[] = { 0x03 }, cut[] = { 0x0A, 0x05 }, open[] = { 0x80 }, unknown[] = { 0x0A, 0x01, 0x58 };
+    CHECK(sudolog_decode(16, bad_tag, 1) == 0 && sudolog_decode(16, cut, 2) == 0 && sudolog_decode(16, open, 1) == 2);
+    CHECK(sudolog_decode(17, bad_tag, 1) == 4 && sudolog_decode(17, cut, 2) == 3 && sudolog_decode(17, open, 1) == 2);
+    CHECK(sudolog_decode(17, unknown, 3) == 0 && sudolog_decode(255, unknown, 3) == 0 && sudolog_decode(255, cut, 2) == 3);
+}
+
 /* ---- absent fields ---- */
 
 #define EMPTY(NAME, OUT)                                                                                    \
@@ -1209,6 +1220,7 @@ int main(void)
     scan_finds_delay_and_data();
     last_one_counts();
     longer_forms_are_read();
+    numbers_above_the_messages();
     absent_fields();
     absent_spans_and_lists();
     each_refusal();

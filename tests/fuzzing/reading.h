@@ -256,7 +256,7 @@ static void read_message(struct program *p)
     static struct answers upper, lower;
     struct reading r;
     uint8_t how = byte(p);
-    r.message = how < 192 ? how % 16 : how;
+    r.message = how < 192 ? how % 16 : how == 192 ? 16 : how; /* 16: what a packed list holds */
     r.field = number(p);
     r.at = (size_t)number(p);
     r.end = (size_t)number(p);

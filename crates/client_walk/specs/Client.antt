@@ -4,7 +4,7 @@ use mathlib.Core.List.{List}
 use mathlib.Core.Bool.{Bool, true, false}
 use lib.Dec.{eqb}
 use Rattle.laws.specs.Base.{part}
-use Rattle.schema.specs.Schema.{kindOf}
+use Rattle.schema.specs.Schema.{kindOf, ClientMessage, IoBuffer, message}
 use Rattle.encoding.specs.Check.{checkOf}
 use Rattle.fields.specs.Fields.{lastIn}
 use Rattle.fields.specs.declared.Last.{Last}
@@ -17,7 +17,8 @@ use Rattle.walk.specs.declared.io.IoRead.the-variants as ioread
 use Rattle.client_walk.specs.declared.ClientRead.{ClientRead}
 use Rattle.client_walk.specs.declared.ClientRead.the-variants as client
 
--- a member from a to e: an I/O buffer by its values, its data at the whole's places
+-- a member from a to e: an I/O buffer by its values, its data at the whole's places. A refused one does not come here: the whole was
+-- checked.
 unfoldable pub memberRead : ℕ → ℕ → ℕ → Bool → IoRead → ClientRead
 memberRead f a e true (ioread.Fine x y b c) = client.Io f x y (a + b) (a + c)
 memberRead f a e true (ioread.Refused r p) = client.Member f a e
@@ -26,11 +27,11 @@ memberRead f a e false i = client.Member f a e
 unfoldable pub clientFrom : List ℕ → Last → ClientRead
 clientFrom s last.Nothing = client.NoMember
 clientFrom s (last.Number f v) = client.NoMember
-clientFrom s (last.Part f a e) = memberRead f a e (eqb (kindOf 0 f) 22) (ioBufferOf (part s a e))
+clientFrom s (last.Part f a e) = memberRead f a e (eqb (kindOf ClientMessage f) (message IoBuffer)) (ioBufferOf (part s a e))
 
 unfoldable pub clientRead : Checked → ClientRead → ClientRead
 clientRead checked.Fine c = c
 clientRead (checked.Refused r p) c = client.Refused r p
 
 abbrev pub clientOf : List ℕ → ClientRead
-clientOf s = clientRead (checkOf 0 s) (clientFrom s (lastIn 1 13 s))
+clientOf s = clientRead (checkOf ClientMessage s) (clientFrom s (lastIn 1 13 s))

@@ -1,4 +1,4 @@
--- Each line computes to the one that issue 6 gives. Assumes nothing.
+-- Each line computes to the one that is shown. Assumes nothing.
 use mathlib.Core.Path.{refl}
 use Rattle.ending.specs.Examples.{LineExamples}
 use Rattle.words.specs.Words.{digits, decimal, memberName, stateName}

@@ -1,4 +1,4 @@
--- The last line that `replay` prints, as bytes. Texts in quotes are issue 6's wording.
+-- The last line that `replay` prints, as bytes. Texts in quotes are the page's wording (docs/DECISIONS.md, replay).
 use Prim.Native.Nat.{ℕ}
 use mathlib.Core.List.{List, [], _++_}
 use lib.Dec.{eqb}

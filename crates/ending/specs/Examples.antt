@@ -1,4 +1,4 @@
--- Issue 6's lines, each shown of the definitions.
+-- Whole lines, each shown of the definitions.
 use Prim.Native.Nat.{ℕ}
 use mathlib.Core.Path.{_≡_}
 use mathlib.Core.List.{[]}

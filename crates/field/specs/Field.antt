@@ -19,6 +19,7 @@ use Rattle.field.specs.declared.payload.Payload.the-variants as payload
 unfoldable pub tagFits : ℕ → Bool
 tagFits v = both (leb v 4294967295) (both (leb 1 (v / 8)) (pick (leb (v % 8) 2) true (eqb (v % 8) 5)))
 
+-- 2: "varint longer than allowed, or past the end of its part"; 4: "bad tag or wire type"
 unfoldable pub tagOf : Varint → Tag
 tagOf (Value v n) = pick (tagFits v) (tag.Field (v / 8) (v % 8) n) (tag.Refused 4)
 tagOf PastEnd = tag.Refused 2
@@ -27,7 +28,7 @@ tagOf TooLong = tag.Refused 2
 unfoldable pub tagAt : List ℕ → ℕ → Tag
 tagAt s at = tagOf (varintAt s at)
 
--- a fixed width of bytes at x, of the field whose tag is at `at`
+-- a fixed width of bytes at x, of the field whose tag is at `at`; 3: "a length or fixed field past the end of its part"
 unfoldable pub fixedAt : List ℕ → ℕ → ℕ → ℕ → Payload
 fixedAt s at x width = pick (leb width (length s - x)) (payload.Fixed (x + width)) (payload.Refused 3 at)
 
@@ -37,7 +38,7 @@ numberOf x (Value v n) = payload.Number v n
 numberOf x PastEnd = payload.Refused 2 x
 numberOf x TooLong = payload.Refused 2 x
 
--- as many bytes as the length at x says
+-- as many bytes as the length at x says; 3 as above
 unfoldable pub partOf : List ℕ → ℕ → Varint → Payload
 partOf s x (Value v n) = pick (leb v (length s - n)) (payload.Part n (n + v)) (payload.Refused 3 x)
 partOf s x PastEnd = payload.Refused 2 x

@@ -1,5 +1,6 @@
 -- What the messages of sudo_logsrv.proto mean, read from their items: strings as lists of bytes, numbers signed.
--- Each record has its message's fields by the .proto's names; the numbers are the .proto's field numbers.
+-- The numbers are the .proto's field numbers, and the names are its names, but these: a TimeSpec's tv_sec and tv_nsec are seconds and
+-- nanoseconds, an InfoMessage is an Entry, ChangeWindowSize is WindowSize, and what two messages share has one name (time, contents).
 use Prim.Native.Nat.{ℕ}
 use mathlib.Core.List.{List, map}
 use mathlib.Core.Bool.{Bool}

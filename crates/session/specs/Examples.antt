@@ -3,6 +3,7 @@ use Prim.Native.Nat.{ℕ}
 use mathlib.Core.Path.{_≡_}
 use mathlib.Core.List.{List, [], _∷_}
 use lib.ListN.{replicate}
+use Rattle.laws.specs.Base.{part}
 use Rattle.message.specs.Message.{Bytes}
 use Rattle.wire.specs.Examples.{ReadingExamples}
 use Rattle.record.specs.Record.{Record, recordBytes}
@@ -70,6 +71,10 @@ pub record Examples : Type 0 where
   -- the record of 2
   pub three :
       recordBytes (record { kind = 7; delay = 1000000000; contents = 0x68 ∷ 0x69 ∷ [] })
+      ≡ 0x70 ∷ 0x00 ∷ 0x00 ∷ 0x00 ∷ 0x10 ∷ 0x00 ∷ 0x00 ∷ 0x00 ∷ 0x00 ∷ 0x00 ∷ 0x02 ∷ 0x68 ∷ 0x69 ∷ []
+  -- and so it is stored, after the accept's 71 bytes
+  pub three-stored :
+      part (first .area) 71 84
       ≡ 0x70 ∷ 0x00 ∷ 0x00 ∷ 0x00 ∷ 0x10 ∷ 0x00 ∷ 0x00 ∷ 0x00 ∷ 0x00 ∷ 0x00 ∷ 0x02 ∷ 0x68 ∷ 0x69 ∷ []
   -- ticks after each of the four, then the exit
   pub seven-first : tick (first .session) ≡ point.At 0

@@ -3,6 +3,7 @@
 use Prim.Native.Nat.{ℕ}
 use mathlib.Core.List.{List}
 use Rattle.laws.specs.Base.{part}
+use Rattle.schema.specs.Schema.{IoBuffer, TimeSpec}
 use Rattle.encoding.specs.Check.{checkOf}
 use Rattle.fields.specs.Fields.{numberIn, lastIn, startFrom, endFrom}
 use Rattle.fields.specs.declared.Last.{Last}
@@ -32,7 +33,7 @@ timeRead checked.Fine t = timeread.Fine (t .seconds) (t .nanos)
 timeRead (checked.Refused r p) t = timeread.Refused r p
 
 abbrev pub timeSpecOf : List ℕ → TimeRead
-timeSpecOf s = timeRead (checkOf 10 s) (timeOf s)
+timeSpecOf s = timeRead (checkOf TimeSpec s) (timeOf s)
 
 -- an I/O buffer that is fine, by its delay and where its data lies
 unfoldable pub ioRead : Checked → Time → Last → IoRead
@@ -40,4 +41,4 @@ ioRead checked.Fine t l = ioread.Fine (t .seconds) (t .nanos) (startFrom l) (end
 ioRead (checked.Refused r p) t l = ioread.Refused r p
 
 abbrev pub ioBufferOf : List ℕ → IoRead
-ioBufferOf s = ioRead (checkOf 6 s) (timeIn 1 s) (lastIn 2 2 s)
+ioBufferOf s = ioRead (checkOf IoBuffer s) (timeIn 1 s) (lastIn 2 2 s)

@@ -1,4 +1,4 @@
--- The line that `replay` prints of a frame, as bytes. Texts in quotes are issue 6's wording.
+-- The line that `replay` prints of a frame, as bytes. Texts in quotes are the page's wording (docs/DECISIONS.md, replay).
 use Prim.Native.Nat.{ℕ, _/_, _%_}
 use mathlib.Core.List.{List, [], _++_}
 use mathlib.Core.Bool.{Bool}

@@ -1,4 +1,4 @@
--- The words of a line, as bytes. Texts in quotes are issue 6's wording.
+-- The words of a line, as bytes. Texts in quotes are the page's wording (docs/DECISIONS.md, replay).
 use Prim.Native.Nat.{ℕ, zero, suc, _+_, _/_, _%_}
 use Prim.Native.Char.{code}
 use Prim.Native.String.{String, [] as nothing, _∷_ as _before_}
