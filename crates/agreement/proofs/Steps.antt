@@ -22,8 +22,8 @@ use Rattle.session.specs.Step.{Outcome, moment, taken, lengthsFit, roomFor, atM
 use Rattle.session.specs.declared.State.{State}
 use Rattle.session.specs.declared.State.the-variants.{New, Greeted, Logging, EventsOnly, Closed}
 use Rattle.session.specs.declared.Session.{Session}
-use Rattle.delivery.specs.Recording.{TimedRecord, io, window, suspend, acceptRecord, recordOf, inRange, ValidTimed}
-use Rattle.delivery.proofs.Values.{timed-ranged, may-follow}
+use Rattle.delivery.specs.Recording.{TimedRecord, io, window, suspend, acceptRecord, recordOf, inRange}
+use Rattle.delivery.proofs.Values.{StorableTimed, timed-ranged, may-follow}
 use Rattle.agreement.specs.Calls.{Call, message, tick, behind, Host, untilPositive, afterTaken, afterMessage, left, over, withBehind, after}
 use Rattle.agreement.specs.Agreement.{Agrees, Unopened, InState, Stands}
 use Rattle.agreement.proofs.Members.{Known, ReadKnown, message-known}
@@ -75,7 +75,7 @@ module _ (h : Host) where
       (λ _.
       picked (After c) (roomFor se (h .area) (h .used) r) _ _
       (λ m.
-      let v : ValidTimed t = record { in-range = ranges f; small = small se (h .area) (h .used) r m } in
+      let v : StorableTimed t = record { in-range = ranges f; small = small se (h .area) (h .used) r m } in
       let sum : total (a .records) + r .delay ≤ limit = omega (arith, a .carries-total, leb-true (se .total + r .delay) limit s) in
       rw point (stored-agrees h a r (timed-ranged t v) (may-follow (total (a .records)) t v sum) (lengths se (h .area) (h .used) (se .used) l .0)))
       (λ _. tt)))
