@@ -1,0 +1,279 @@
+-- What a writer takes is read again, by the round trip and by the two tables of ranges.
+use Prim.Native.Nat.{ℕ, _+_, _-_, _^_, _≤_, _<_}
+use native.Mathlib.Omega.{arith}
+use mathlib.Core.Path.{_≡_, refl, ap, _∙_}
+use mathlib.Core.List.{List, [], _∷_}
+use mathlib.Core.Bool.{Bool, true, false}
+use lib.ListN.{length}
+use lib.Dec.{ltb, leb, eqb, eqb→eq}
+use borrow.Author.Tests.{leb-true, le-leb, ltb-false, eqb-true, eqb-false, ne-eqb}
+use Rattle.laws.specs.Base.{pick, both}
+use Rattle.laws.proofs.Order.{both-true}
+use Rattle.laws.proofs.Table.{below}
+use Rattle.schema.specs.Schema.{schema, kindOf}
+use Rattle.encoding.specs.Check.{checkOf}
+use Rattle.encoding.specs.declared.check.Checked.{Checked}
+use Rattle.encoding.specs.declared.check.Checked.the-variants as checked
+use Rattle.fields.specs.Fields.{among}
+use Rattle.fields.specs.Items as i
+use Rattle.fields.specs.Items.{items, lastFrom, lastItem}
+use Rattle.message.specs.Signed.{int32}
+use Rattle.message.specs.Message as m
+use Rattle.message.specs.Message.{Bytes, clientMember}
+use Rattle.range.specs.Range as g
+use Rattle.range.specs.Range.{bodyFits, clientFits, inRange}
+use Rattle.wire.specs.Read.{Reading, value, after, clientMessage, checkNumber, isAbsent, noMember, readNumber}
+use Rattle.written.specs.Pieces.{Piece, bytes, front, encodeAll}
+use Rattle.written.specs.Draft as d
+use Rattle.written.specs.Draft.{Stamp, stampValue, ClientDraft, clientNumber, clientPieces, wrapped, writtenClient, meantClient}
+use Rattle.written.specs.Outcome.{refusal, roomRefusal}
+use Rattle.written.specs.RoundTrip.{pieceItems, Short, ClientParts, NarrowClient}
+use Rattle.written.proofs.RoundTrip.{round-trip}
+use Rattle.written.proofs.Refusals.{no-refusal}
+use Rattle.written.proofs.Embedded as back
+use Rattle.fits.specs.Fits as w
+use Rattle.fits.specs.Fits.{memberIn, dateFits, momentFits, sized}
+use Rattle.reread.specs.Reread.{Taken, runOf, valuesFit, TakenClient, Given, ReadAgain, Reread}
+use Rattle.reread.proofs.Ranges.{in-32, date-in, date-narrow, moment-in, moment-narrow, stamped, sized-in}
+
+-- ---- a writer that answers 0: no refusal of its run, values in range, a message that fits a frame
+
+record Clear (run : ℕ) (fits : Bool) (s : Bytes) : Type 0 where
+  run-taken : run ≡ 0
+  in-range : fits ≡ true
+  short : length s ≤ 2097152
+
+clear : {run : ℕ} {fits : Bool} {s : Bytes} → Taken run fits s → Clear run fits s
+unfolding refusal roomRefusal
+clear {run} {fits} {s} t = at-run (eqb run 0) refl (t .answer)
+  where
+    room-test : Bool
+    room-test = ltb (t .room) (length (front (t .framed) (length s)) + length s)
+
+    at-length : run ≡ 0 → fits ≡ true → (b : Bool) → ltb 2097152 (length s) ≡ b → _≡_ {A = ℕ} (pick b 1 (pick room-test 12 0)) 0 → Clear run fits s
+    at-length r f true q h = absurd (omega arith)
+    at-length r f false q h = record { run-taken = r; in-range = f; short = ltb-false 2097152 (length s) q }
+
+    at-fits : run ≡ 0 → (b : Bool) → fits ≡ b → _≡_ {A = ℕ} (pick b (pick (ltb 2097152 (length s)) 1 (pick room-test 12 0)) 7) 0 → Clear run fits s
+    at-fits r true q h = at-length r q (ltb 2097152 (length s)) refl h
+    at-fits r false q h = absurd (omega arith)
+
+    at-run : (b : Bool) → eqb run 0 ≡ b → pick b (pick fits (pick (ltb 2097152 (length s)) 1 (pick room-test 12 0)) 7) run ≡ 0 → Clear run fits s
+    at-run true q h = at-fits (eqb-true run 0 q) fits refl h
+    at-run false q h = let n = eqb-false run 0 q in absurd (n h)
+
+short-of : (s : Bytes) → length s ≤ 2097152 → Short s
+short-of s h = omega arith
+
+-- ---- the parts of a draft that is taken
+
+exit-parts : (f : ℕ) (t : Stamp) (v : ℕ) (x : Bytes) → w.exitFits f t v x ≡ true → (momentFits t ≡ true) × (v ≤ 255) × (sized 0 127 x ≡ true)
+exit-parts f t v x q =
+    let a = both-true (memberIn 3 3 f) (both (momentFits t) (both (leb v 255) (sized 0 127 x))) q .1 in
+    let b = both-true (momentFits t) (both (leb v 255) (sized 0 127 x)) a in
+    let c = both-true (leb v 255) (sized 0 127 x) (b .1) in
+    (b .0, leb-true v 255 (c .0), c .1)
+
+restart-parts : (f : ℕ) (x : Bytes) (t : Stamp) → w.restartFits f x t ≡ true → (sized 1 4095 x ≡ true) × (momentFits t ≡ true)
+restart-parts f x t q = both-true (sized 1 4095 x) (momentFits t) (both-true (memberIn 4 4 f) (both (sized 1 4095 x) (momentFits t)) q .1)
+
+window-parts : (f : ℕ) (t : Stamp) (x y : ℕ) → w.windowFits f t x y ≡ true → (momentFits t ≡ true) × (x ≤ 65535) × (y ≤ 65535)
+window-parts f t x y q =
+    let a = both-true (memberIn 11 11 f) (both (momentFits t) (both (leb x 65535) (leb y 65535))) q .1 in
+    let b = both-true (momentFits t) (both (leb x 65535) (leb y 65535)) a in
+    let c = both-true (leb x 65535) (leb y 65535) (b .1) in
+    (b .0, leb-true x 65535 (c .0), leb-true y 65535 (c .1))
+
+suspend-parts : (f : ℕ) (t : Stamp) (x : Bytes) → w.suspendFits f t x ≡ true → (momentFits t ≡ true) × (sized 1 127 x ≡ true)
+suspend-parts f t x q = both-true (momentFits t) (sized 1 127 x) (both-true (memberIn 12 12 f) (both (momentFits t) (sized 1 127 x)) q .1)
+
+io-moment : (f : ℕ) (t : Stamp) → w.ioFits f t ≡ true → momentFits t ≡ true
+io-moment f t q = both-true (memberIn 6 10 f) (momentFits t) q .1
+
+accept-date : (f : ℕ) (t : Stamp) → w.acceptFits f t ≡ true → dateFits t ≡ true
+accept-date f t q = both-true (memberIn 1 1 f) (dateFits t) q .1
+
+report-date : (f : ℕ) (t : Stamp) → w.reportFits f t ≡ true → dateFits t ≡ true
+report-date f t q = both-true (w.reportMember f) (dateFits t) q .1
+
+-- ---- what RoundTrip asks of a draft
+
+narrow : (f : ℕ) (c : ClientDraft) → Given c → valuesFit f c ≡ true → NarrowClient c
+unfolding valuesFit
+narrow f (d.accept t r e) n q = date-narrow t n (accept-date f t q)
+narrow f (d.reject t x r) n q = date-narrow t n (report-date f t q)
+narrow f (d.exit t v c x y) n q = let p = exit-parts f t v x q in let b = p .1 in (moment-narrow t (p .0), omega arith)
+narrow f (d.restart x t) n q = moment-narrow t (restart-parts f x t q .1)
+narrow f (d.alert t x r) n q = date-narrow t n (report-date f t q)
+narrow f (d.io k t x) n q = moment-narrow t (io-moment f t q)
+narrow f (d.window t x y) n q =
+    let p = window-parts f t x y q in
+    let a = p .1 in
+    let b = p .2 in
+    (moment-narrow t (p .0), (omega arith, omega arith))
+narrow f (d.suspend t x) n q = moment-narrow t (suspend-parts f t x q .0)
+narrow f (d.clientHello x) n q = tt
+
+parts : (c : ClientDraft) → Given c → runOf c ≡ 0 → NarrowClient c → ClientParts c
+unfolding runOf
+parts (d.accept t r e) n z q = (stamped t q, round-trip .run-taken 2 r z)
+parts (d.reject t x r) n z q = (stamped t q, round-trip .run-taken 3 r z)
+parts (d.exit t v c x y) n z q = let b = q .1 in (stamped t (q .0), omega arith)
+parts (d.restart x t) n z q = stamped t q
+parts (d.alert t x r) n z q = (stamped t q, round-trip .run-taken 3 r z)
+parts (d.io k t x) n z q = (n, stamped t q)
+parts (d.window t x y) n z q =
+    let a = q .1 .0 in
+    let b = q .1 .1 in
+    (stamped t (q .0), (omega arith, omega arith))
+parts (d.suspend t x) n z q = stamped t q
+parts (d.clientHello x) n z q = tt
+
+-- ---- the ranges of what is read
+
+-- the readers' ranges of a member, as its value has them
+unfoldable meantFits : ClientDraft → Bool
+meantFits (d.accept t r e) = g.acceptFits (record { submitTime = stampValue t; infoMsgs = m.entries 2 (items r); expectIobufs = e })
+meantFits (d.reject t x r) = g.reportFits (record { time = stampValue t; reason = x; infoMsgs = m.entries 3 (items r) })
+meantFits (d.exit t v c x y) = g.exitFits (record { runTime = stampValue t; exitValue = int32 v; dumpedCore = c; signal = x; error = y })
+meantFits (d.restart x t) = g.restartFits (record { logId = x; resumePoint = stampValue t })
+meantFits (d.alert t x r) = g.reportFits (record { time = stampValue t; reason = x; infoMsgs = m.entries 3 (items r) })
+meantFits (d.io k t x) = g.ioFits (record { delay = stampValue t; contents = x })
+meantFits (d.window t x y) = g.windowFits (record { delay = stampValue t; rows = int32 x; cols = int32 y })
+meantFits (d.suspend t x) = g.suspendFits (record { delay = stampValue t; contents = x })
+meantFits (d.clientHello x) = true
+
+meant-fits : (f : ℕ) (c : ClientDraft) → runOf c ≡ 0 → valuesFit f c ≡ true → meantFits c ≡ true
+unfolding runOf valuesFit meantFits g.acceptFits g.reportFits g.exitFits g.restartFits g.ioFits g.windowFits g.suspendFits
+meant-fits f (d.accept t r e) z q = rw (date-in t (accept-date f t q), no-refusal 2 r z .1)
+meant-fits f (d.reject t x r) z q = rw (date-in t (report-date f t q), no-refusal 3 r z .1)
+meant-fits f (d.exit t v c x y) z q =
+    let p = exit-parts f t v x q in rw (moment-in t (p .0), in-32 255 v (p .1) (omega arith), sized-in 0 127 x (p .2))
+meant-fits f (d.restart x t) z q = let p = restart-parts f x t q in rw (sized-in 1 4095 x (p .0), moment-in t (p .1))
+meant-fits f (d.alert t x r) z q = rw (date-in t (report-date f t q), no-refusal 3 r z .1)
+meant-fits f (d.io k t x) z q = moment-in t (io-moment f t q)
+meant-fits f (d.window t x y) z q =
+    let p = window-parts f t x y q in rw (moment-in t (p .0), in-32 65535 x (p .1) (omega arith), in-32 65535 y (p .2) (omega arith))
+meant-fits f (d.suspend t x) z q = let p = suspend-parts f t x q in rw (moment-in t (p .0), sized-in 1 127 x (p .1))
+meant-fits f (d.clientHello x) z q = refl
+
+-- the members 6 to 10 are I/O buffers
+buffers : ℕ → Bool
+buffers f = pick (leb 6 f) (eqb (kindOf 0 f) 22) true
+
+io-kind : (f : ℕ) → 6 ≤ f → f ≤ 10 → kindOf 0 f ≡ 22
+unfolding buffers kindOf schema
+io-kind f h n = eqb→eq (kindOf 0 f) 22 (rw (le-leb 6 f h) at (below buffers 11 tt f (omega arith)))
+
+-- the member's bytes are asked by these
+body-fits : (c : ClientDraft) → ClientParts c → Short (encodeAll (clientPieces c))
+    → bodyFits (kindOf 0 (clientNumber c) - 16) (items (encodeAll (clientPieces c))) ≡ meantFits c
+unfolding kindOf schema clientNumber clientPieces meantFits bodyFits
+body-fits (d.accept t r e) p h = ap g.acceptFits (back.accept-back t r e (p .0) (p .1) h .means)
+body-fits (d.reject t x r) p h = ap g.reportFits (back.reject-back t x r (p .0) (p .1) h .means)
+body-fits (d.exit t v c x y) p h = ap g.exitFits (back.exit-back t v c x y (p .0) (p .1) h .means)
+body-fits (d.restart x t) p h = ap g.restartFits (back.restart-back x t p h .means)
+body-fits (d.alert t x r) p h = ap g.reportFits (back.alert-back t x r (p .0) (p .1) h .means)
+body-fits (d.io k t x) p h =
+    let q : kindOf 0 k - 16 ≡ 6 = ap (λ (n : ℕ). n - 16) (io-kind k (p .0 .0) (p .0 .1)) in
+    ap (λ (n : ℕ). bodyFits n (items (encodeAll (d.timedPieces t x)))) q ∙ ap g.ioFits (back.io-back t x (p .1) h .means)
+body-fits (d.window t x y) p h = ap g.windowFits (back.window-back t x y (p .0) (p .1 .0) (p .1 .1) h .means)
+body-fits (d.suspend t x) p h = ap g.suspendFits (back.suspend-back t x p h .means)
+body-fits (d.clientHello x) p h = refl
+
+-- ---- a reader by itself
+
+-- a value is read where the check finds nothing to refuse
+value-fine : {A : Type 0} (k : Checked) (r : Reading A) (v : A) → after k r ≡ value v → k ≡ checked.Fine
+unfolding after
+value-fine checked.Fine r v q = refl
+value-fine (checked.Refused n p) r v q = let z : _≡_ {A = ℕ} 0 1 = cc in absurd (omega arith)
+
+-- the only field is the last one of its numbers
+only-field : (hi f : ℕ) (x : Bytes) → 1 ≤ f → f ≤ hi → hi < 2 ^ 29 → Short (encodeAll (bytes f x ∷ []))
+    → lastItem 1 hi (items (encodeAll (bytes f x ∷ []))) ≡ i.bytes f x
+unfolding lastFrom among pieceItems
+only-field hi f x h k b s =
+    ap (lastItem 1 hi) (round-trip .fields (bytes f x ∷ []) ((h, omega arith), tt) s) ∙ rw (le-leb 1 f h, le-leb f hi k)
+
+-- no refusal of a ClientMessage whose member is in range
+client-number : (f : ℕ) (x : Bytes) → 1 ≤ f → f ≤ 13 → Short (encodeAll (bytes f x ∷ [])) → checkOf 0 (encodeAll (bytes f x ∷ [])) ≡ checked.Fine
+    → bodyFits (kindOf 0 f - 16) (items x) ≡ true → readNumber 0 (encodeAll (bytes f x ∷ [])) ≡ 0
+unfolding readNumber checkNumber noMember isAbsent inRange clientFits
+client-number f x h k s c b = rw (c, only-field 13 f x h k (omega arith) s, b)
+
+-- no refusal of a member by itself
+body-number : (k : ℕ) (s : Bytes) → 1 ≤ k → k ≤ 9 → checkOf k s ≡ checked.Fine → bodyFits k (items s) ≡ true → readNumber k s ≡ 0
+unfolding readNumber checkNumber noMember inRange
+body-number k s h n c b = rw (c, ne-eqb k 0 (omega arith), ne-eqb k 14 (omega arith), b)
+
+-- ---- a ClientMessage
+
+member-number : (c : ClientDraft) → Given c → (1 ≤ clientNumber c) × (clientNumber c ≤ 13)
+unfolding clientNumber
+member-number (d.accept t r e) n = (omega arith, omega arith)
+member-number (d.reject t x r) n = (omega arith, omega arith)
+member-number (d.exit t v c x y) n = (omega arith, omega arith)
+member-number (d.restart x t) n = (omega arith, omega arith)
+member-number (d.alert t x r) n = (omega arith, omega arith)
+member-number (d.io k t x) n = let a = n .0 in let b = n .1 in (omega arith, omega arith)
+member-number (d.window t x y) n = (omega arith, omega arith)
+member-number (d.suspend t x) n = (omega arith, omega arith)
+member-number (d.clientHello x) n = (omega arith, omega arith)
+
+body-kind : (c : ClientDraft) → Given c → (1 ≤ kindOf 0 (clientNumber c) - 16) × (kindOf 0 (clientNumber c) - 16 ≤ 9)
+unfolding clientNumber kindOf schema
+body-kind (d.accept t r e) n = (omega arith, omega arith)
+body-kind (d.reject t x r) n = (omega arith, omega arith)
+body-kind (d.exit t v c x y) n = (omega arith, omega arith)
+body-kind (d.restart x t) n = (omega arith, omega arith)
+body-kind (d.alert t x r) n = (omega arith, omega arith)
+body-kind (d.io k t x) n = let q : kindOf 0 k ≡ 22 = io-kind k (n .0) (n .1) in (omega arith, omega arith)
+body-kind (d.window t x y) n = (omega arith, omega arith)
+body-kind (d.suspend t x) n = (omega arith, omega arith)
+body-kind (d.clientHello x) n = (omega arith, omega arith)
+
+wrapped-is : (f : ℕ) (ps : List Piece) → 1 ≤ f → wrapped f ps ≡ encodeAll (bytes f (encodeAll ps) ∷ [])
+unfolding wrapped
+wrapped-is f ps h = rw (ne-eqb f 0 (omega arith))
+
+unwrapped : (ps : List Piece) → wrapped 0 ps ≡ encodeAll ps
+unfolding wrapped
+unwrapped ps = refl
+
+client : (c : ClientDraft) → Given c → TakenClient (clientNumber c) c → ReadAgain 0 (writtenClient c) clientMessage (value (meantClient c))
+unfolding clientMessage
+client c n t =
+    let k = clear t in
+    let f : ℕ = clientNumber c in
+    let x : Bytes = encodeAll (clientPieces c) in
+    let b = member-number c n in
+    let p = parts c n (k .run-taken) (narrow f c n (k .in-range)) in
+    let short = k .short in
+    let q = wrapped-is f (clientPieces c) (b .0) in
+    let s : Short (encodeAll (bytes f x ∷ [])) = rw q at (short-of (writtenClient c) short) in
+    let r = round-trip .client c (p, short-of (writtenClient c) short) in
+    let fine : checkOf 0 (encodeAll (bytes f x ∷ [])) ≡ checked.Fine = rw q at (value-fine (checkOf 0 (writtenClient c)) _ (meantClient c) r) in
+    let inside : bodyFits (kindOf 0 f - 16) (items x) ≡ true = body-fits c p (back.held-short [] [] f x s) ∙ meant-fits f c (k .run-taken) (k .in-range) in
+    record { no-refusal = ap (readNumber 0) q ∙ client-number f x (b .0) (b .1) s fine inside; means = r }
+
+client-alone : (c : ClientDraft) → Given c → TakenClient 0 c
+    → ReadAgain (kindOf 0 (clientNumber c) - 16) (encodeAll (clientPieces c)) (λ (s : Bytes). clientMember (clientNumber c) (items s)) (meantClient c)
+client-alone c n t =
+    let k = clear t in
+    let x : Bytes = encodeAll (clientPieces c) in
+    let p = parts c n (k .run-taken) (narrow 0 c n (k .in-range)) in
+    let s : Short x = rw (unwrapped (clientPieces c)) at (short-of (wrapped 0 (clientPieces c)) (k .short)) in
+    let r = round-trip .body c p s in
+    let b = body-kind c n in
+    record {
+      no-refusal = body-number (kindOf 0 (clientNumber c) - 16) x (b .0) (b .1) (r .fine) (body-fits c p s ∙ meant-fits 0 c (k .run-taken) (k .in-range));
+      means = r .means;
+    }
+
+pub reread : Reread
+reread = record {
+  client = client;
+  client-alone = client-alone;
+  client-narrow = λ f c n t. narrow f c n (clear t .in-range);
+}
