@@ -1,39 +1,43 @@
 -- What a writer takes is read again, by the round trip and by the two tables of ranges.
 use Prim.Native.Nat.{ℕ, _+_, _-_, _^_, _≤_, _<_}
 use native.Mathlib.Omega.{arith}
-use mathlib.Core.Path.{_≡_, refl, ap, _∙_}
-use mathlib.Core.List.{List, [], _∷_}
+use mathlib.Core.Path.{_≡_, refl, sym, ap, _∙_}
+use mathlib.Core.List.{List, [], _∷_, _++_, append-nil, append-assoc}
 use mathlib.Core.Bool.{Bool, true, false}
-use lib.ListN.{length}
+use lib.ListN.{length, take, drop}
+use lib.Seq.{take-at, drop-at}
 use lib.Dec.{ltb, leb, eqb, eqb→eq}
-use borrow.Author.Tests.{leb-true, le-leb, ltb-false, eqb-true, eqb-false, ne-eqb}
-use Rattle.laws.specs.Base.{pick, both}
+use borrow.Author.Tests.{leb-true, le-leb, ltb-false, eqb-true, eqb-false, eq-eqb, ne-eqb}
+use Rattle.laws.specs.Base.{pick, both, part, splice}
 use Rattle.laws.proofs.Order.{both-true}
 use Rattle.laws.proofs.Table.{below}
+use Rattle.frame.specs.Frame.{cutOf}
+use Rattle.frame.specs.declared.Cut.the-variants as cut
 use Rattle.schema.specs.Schema.{schema, kindOf}
 use Rattle.encoding.specs.Check.{checkOf}
 use Rattle.encoding.specs.declared.check.Checked.{Checked}
 use Rattle.encoding.specs.declared.check.Checked.the-variants as checked
 use Rattle.fields.specs.Fields.{among}
 use Rattle.fields.specs.Items as i
-use Rattle.fields.specs.Items.{items, lastFrom, lastItem}
+use Rattle.fields.specs.Items.{Item, items, lastFrom, lastItem}
 use Rattle.message.specs.Signed.{int32}
 use Rattle.message.specs.Message as m
 use Rattle.message.specs.Message.{Bytes, clientMember}
+use Rattle.limits.specs.Limits as l
 use Rattle.range.specs.Range as g
-use Rattle.range.specs.Range.{bodyFits, clientFits, inRange}
-use Rattle.wire.specs.Read.{Reading, value, after, clientMessage, checkNumber, isAbsent, noMember, readNumber}
+use Rattle.range.specs.Range.{bodyFits, clientFits, serverFits, inRange}
+use Rattle.wire.specs.Read.{Reading, value, after, clientMessage, serverMessage, checkNumber, isAbsent, noMember, readNumber}
 use Rattle.written.specs.Pieces.{Piece, bytes, front, encodeAll}
 use Rattle.written.specs.Draft as d
-use Rattle.written.specs.Draft.{Stamp, stampValue, ClientDraft, clientNumber, clientPieces, wrapped, writtenClient, meantClient}
-use Rattle.written.specs.Outcome.{refusal, roomRefusal}
-use Rattle.written.specs.RoundTrip.{pieceItems, Short, ClientParts, NarrowClient}
+use Rattle.written.specs.Draft.{Stamp, stampValue, EntryDraft, ClientDraft, ServerDraft, clientNumber, clientPieces, wrapped, writtenClient, writtenServer, meantClient, meantServer}
+use Rattle.written.specs.Outcome.{refusal, roomRefusal, size, buffer}
+use Rattle.written.specs.RoundTrip.{pieceItems, Numbered, Short, ReadsAs, ClientParts, ServerParts, EntryParts, NarrowClient, Keyed, writtenRun}
 use Rattle.written.proofs.RoundTrip.{round-trip}
 use Rattle.written.proofs.Refusals.{no-refusal}
 use Rattle.written.proofs.Embedded as back
 use Rattle.fits.specs.Fits as w
 use Rattle.fits.specs.Fits.{memberIn, dateFits, momentFits, sized}
-use Rattle.reread.specs.Reread.{Taken, runOf, valuesFit, TakenClient, Given, ReadAgain, Reread}
+use Rattle.reread.specs.Reread.{Taken, runOf, valuesFit, TakenClient, Given, ClientAgain, ServerAgain, BodyAgain, RunAgain, Reread}
 use Rattle.reread.proofs.Ranges.{in-32, date-in, date-narrow, moment-in, moment-narrow, stamped, sized-in}
 
 -- ---- a writer that answers 0: no refusal of its run, values in range, a message that fits a frame
@@ -202,10 +206,10 @@ client-number : (f : ℕ) (x : Bytes) → 1 ≤ f → f ≤ 13 → Short (encode
 unfolding readNumber checkNumber noMember isAbsent inRange clientFits
 client-number f x h k s c b = rw (c, only-field 13 f x h k (omega arith) s, b)
 
--- no refusal of a member by itself
-body-number : (k : ℕ) (s : Bytes) → 1 ≤ k → k ≤ 9 → checkOf k s ≡ checked.Fine → bodyFits k (items s) ≡ true → readNumber k s ≡ 0
+-- no refusal of a message that is no ClientMessage and no ServerMessage
+body-number : (k : ℕ) (s : Bytes) → (k ≡ 0 → ⊥) → (k ≡ 14 → ⊥) → checkOf k s ≡ checked.Fine → bodyFits k (items s) ≡ true → readNumber k s ≡ 0
 unfolding readNumber checkNumber noMember inRange
-body-number k s h n c b = rw (c, ne-eqb k 0 (omega arith), ne-eqb k 14 (omega arith), b)
+body-number k s h n c b = rw (c, ne-eqb k 0 h, ne-eqb k 14 n, b)
 
 -- ---- a ClientMessage
 
@@ -241,7 +245,7 @@ unwrapped : (ps : List Piece) → wrapped 0 ps ≡ encodeAll ps
 unfolding wrapped
 unwrapped ps = refl
 
-client : (c : ClientDraft) → Given c → TakenClient (clientNumber c) c → ReadAgain 0 (writtenClient c) clientMessage (value (meantClient c))
+client : (c : ClientDraft) → Given c → TakenClient (clientNumber c) c → ClientAgain c
 unfolding clientMessage
 client c n t =
     let k = clear t in
@@ -258,7 +262,7 @@ client c n t =
     record { no-refusal = ap (readNumber 0) q ∙ client-number f x (b .0) (b .1) s fine inside; means = r }
 
 client-alone : (c : ClientDraft) → Given c → TakenClient 0 c
-    → ReadAgain (kindOf 0 (clientNumber c) - 16) (encodeAll (clientPieces c)) (λ (s : Bytes). clientMember (clientNumber c) (items s)) (meantClient c)
+    → BodyAgain (kindOf 0 (clientNumber c) - 16) (clientPieces c) (clientMember (clientNumber c)) (meantClient c)
 client-alone c n t =
     let k = clear t in
     let x : Bytes = encodeAll (clientPieces c) in
@@ -266,14 +270,165 @@ client-alone c n t =
     let s : Short x = rw (unwrapped (clientPieces c)) at (short-of (wrapped 0 (clientPieces c)) (k .short)) in
     let r = round-trip .body c p s in
     let b = body-kind c n in
+    let from = b .0 in
+    let to = b .1 in
     record {
-      no-refusal = body-number (kindOf 0 (clientNumber c) - 16) x (b .0) (b .1) (r .fine) (body-fits c p s ∙ meant-fits 0 c (k .run-taken) (k .in-range));
+      no-refusal = body-number (kindOf 0 (clientNumber c) - 16) x (λ z. omega arith) (λ z. omega arith) (r .fine) (body-fits c p s ∙ meant-fits 0 c (k .run-taken) (k .in-range));
       means = r .means;
     }
 
+-- ---- a ServerMessage
+
+server-number : (f : ℕ) (x : Bytes) → 1 ≤ f → f ≤ 5 → Short (encodeAll (bytes f x ∷ [])) → checkOf 14 (encodeAll (bytes f x ∷ [])) ≡ checked.Fine
+    → pick (eqb f 2) (l.momentFits (m.timeSpec (items x))) true ≡ true → readNumber 14 (encodeAll (bytes f x ∷ [])) ≡ 0
+unfolding readNumber checkNumber noMember isAbsent inRange serverFits
+server-number f x h k s c b = rw (c, only-field 5 f x h k (omega arith) s, b)
+
+-- the member f of a ServerMessage that is written as it is, and in range
+server : (c : ServerDraft) (f : ℕ) (x : Bytes) → ServerParts c → writtenServer c ≡ encodeAll (bytes f x ∷ []) → 1 ≤ f → f ≤ 5
+    → length (writtenServer c) ≤ 2097152 → pick (eqb f 2) (l.momentFits (m.timeSpec (items x))) true ≡ true → ServerAgain c
+unfolding serverMessage
+server c f x p q h k b inside =
+    let s : Short (encodeAll (bytes f x ∷ [])) = rw q at (short-of (writtenServer c) b) in
+    let r = round-trip .server c (p, short-of (writtenServer c) b) in
+    let fine : checkOf 14 (encodeAll (bytes f x ∷ [])) ≡ checked.Fine = rw q at (value-fine (checkOf 14 (writtenServer c)) _ (meantServer c) r) in
+    record { no-refusal = ap (readNumber 14) q ∙ server-number f x h k s fine inside; means = r }
+
+server-hello : (x y joined : Bytes) (ends : List ℕ) (e : Bool)
+    → Taken 0 (w.serverHelloFits 1 joined ends) (wrapped 1 (d.serverHelloPieces x y (d.cutAt joined 0 ends) e))
+    → ServerAgain (d.serverHello x y (d.cutAt joined 0 ends) e)
+unfolding writtenServer
+server-hello x y joined ends e t =
+    let ps : List Piece = d.serverHelloPieces x y (d.cutAt joined 0 ends) e in
+    server (d.serverHello x y (d.cutAt joined 0 ends) e) 1 (encodeAll ps) tt (wrapped-is 1 ps (omega arith)) (omega arith) (omega arith) (clear t .short) refl
+
+commit-point : (t : Stamp) → Taken 0 (w.timeFits 2 t) (wrapped 2 (d.timePieces t)) → ServerAgain (d.commit t)
+unfolding writtenServer w.timeFits
+commit-point t k =
+    let q : momentFits t ≡ true = clear k .in-range in
+    let n = stamped t (moment-narrow t q) in
+    server (d.commit t) 2 (d.time t) n (wrapped-is 2 (d.timePieces t) (omega arith)) (omega arith) (omega arith) (clear k .short)
+    (ap l.momentFits (back.time-back t n .means) ∙ moment-in t q)
+
+note : (f : ℕ) (x : Bytes) → Taken 0 (w.noteFits f) (encodeAll (bytes f x ∷ [])) → ServerAgain (d.note f x)
+unfolding writtenServer
+note f x t =
+    let q = both-true (leb 3 f) (leb f 5) (clear t .in-range) in
+    let from = leb-true 3 f (q .0) in
+    let to = leb-true f 5 (q .1) in
+    server (d.note f x) f x (from, to) refl (omega arith) to (clear t .short) (rw (ne-eqb f 2 (λ z. omega arith)))
+
+-- ---- messages without ranges of their own, and entries
+
+alone : {A : Type 0} (k : ℕ) (ps : List Piece) (read : List Item → A) (v : A) → (k ≡ 0 → ⊥) → (k ≡ 14 → ⊥) → ReadsAs k (encodeAll ps) read v
+    → bodyFits k (items (encodeAll ps)) ≡ true → BodyAgain k ps read v
+alone k ps read v h n r b = record { no-refusal = body-number k (encodeAll ps) h n (r .fine) b; means = r .means }
+
+short-alone : {fits : Bool} (ps : List Piece) → Taken 0 fits (wrapped 0 ps) → Short (encodeAll ps)
+short-alone ps t = rw (unwrapped ps) at (short-of (wrapped 0 ps) (clear t .short))
+
+key-in : (f : ℕ) (key : Bytes) → w.entryFits f key ≡ true → 1 ≤ length key
+key-in f key q = leb-true 1 (length key) (both-true (memberIn 2 3 f) (leb 1 (length key)) q .1)
+
+small-member : (f : ℕ) → 1 ≤ f → memberIn 2 3 f ≡ true → f ≤ 3
+unfolding memberIn
+small-member f h q =
+    let p : both (leb 2 f) (leb f 3) ≡ true = rw (ne-eqb f 0 (omega arith)) at q in leb-true f 3 (both-true (leb 2 f) (leb f 3) p .1)
+
+value-set : (v : EntryDraft) → l.isSet (d.meantValue v) ≡ true
+unfolding l.isSet d.meantValue
+value-set (d.numval v) = refl
+value-set (d.strval x) = refl
+value-set (d.strlistval ds) = refl
+value-set (d.numlistval vs) = refl
+
+entry-alone : (key : Bytes) (v : EntryDraft) → EntryParts v → Taken 0 (w.entryFits 0 key) (wrapped 0 (d.entryPieces key v))
+    → BodyAgain 11 (d.entryPieces key v) m.entry (d.meantEntry key v)
+unfolding bodyFits l.entryFits
+entry-alone key v p t =
+    let s = short-alone (d.entryPieces key v) t in
+    let r = round-trip .entry key v (p, s) in
+    alone 11 (d.entryPieces key v) m.entry (d.meantEntry key v) (λ z. omega arith) (λ z. omega arith) r
+    (ap l.entryFits (r .means) ∙ rw (le-leb 1 (length key) (key-in 0 key (clear t .in-range)), value-set v))
+
+entry : (f : ℕ) → 1 ≤ f → (key : Bytes) (v : EntryDraft) → EntryParts v → Taken 0 (w.entryFits f key) (wrapped f (d.entryPieces key v))
+    → RunAgain f (wrapped f (d.entryPieces key v)) (d.meantEntry key v ∷ [])
+unfolding writtenRun
+entry f h key v p t =
+    let k = clear t in
+    let a : Bytes = wrapped f (d.entryPieces key v) in
+    let few = small-member f h (both-true (memberIn 2 3 f) (leb 1 (length key)) (k .in-range) .0) in
+    let n : Numbered f = (h, omega arith) in
+    let es : List Keyed = record { key = key; value = v } ∷ [] in
+    let q : writtenRun f es ≡ a = append-nil a in
+    let s : Short (writtenRun f es) = rw (sym q) at (short-of a (k .short)) in
+    record {
+      no-refusal = round-trip .run-one-taken f n key v p (short-of a (k .short)) (key-in f key (k .in-range));
+      means = ap (λ (x : Bytes). m.entries f (items x)) (sym q) ∙ round-trip .run-means f n es (p, tt) s;
+    }
+
+entry-strings : (f : ℕ) (key joined : Bytes) (ends : List ℕ) (s : Bytes) → Taken 0 (w.entryStringsFits f key joined ends) s → Taken 0 (w.entryFits f key) s
+entry-strings f key joined ends s t =
+    let q = clear t .in-range in
+    let p : w.entryFits f key ≡ true = both-true (w.entryFits f key) (w.endsFit joined ends) q .0 in
+    record { framed = t .framed; room = t .room; answer = ap (λ (b : Bool). refusal 0 b (t .framed) s (t .room)) (p ∙ sym q) ∙ t .answer }
+
+-- ---- the buffer
+
+buffer-is : (run : ℕ) (fits framed : Bool) (s out : Bytes) → refusal run fits framed s (length out) ≡ 0
+    → buffer run fits framed s out ≡ front framed (length s) ++ (s ++ drop (length (front framed (length s) ++ s)) out)
+unfolding buffer splice
+buffer-is run fits framed s out q =
+    let a : Bytes = front framed (length s) in
+    let e = eq-eqb (refusal run fits framed s (length out)) 0 q in
+    let z : 0 + length (a ++ s) ≡ length (a ++ s) = omega arith in
+    rw (e, z) (append-assoc a s (drop (length (a ++ s)) out))
+
+size-is : (run : ℕ) (fits framed : Bool) (s : Bytes) (room : ℕ) → refusal run fits framed s room ≡ 0
+    → size run fits framed s room ≡ length (front framed (length s)) + length s
+unfolding size
+size-is run fits framed s room q = rw (eq-eqb (refusal run fits framed s room) 0 q)
+
+part-between : (a s rest : Bytes) → part (a ++ (s ++ rest)) (length a) (length a + length s) ≡ s
+part-between a s rest =
+    let e : length a + length s - length a ≡ length s = omega arith in
+    ap (λ (n : ℕ). take n (drop (length a) (a ++ (s ++ rest)))) e
+    ∙ ap (take (length s)) (drop-at a (s ++ rest) (length a) refl)
+    ∙ take-at s rest (length s) refl
+
+laid : (run : ℕ) (fits framed : Bool) (s out : Bytes) → refusal run fits framed s (length out) ≡ 0
+    → part (buffer run fits framed s out) (length (front framed (length s))) (size run fits framed s (length out)) ≡ s
+laid run fits framed s out q =
+    let a : Bytes = front framed (length s) in
+    ap (λ (b : Bytes). part b (length a) (size run fits framed s (length out))) (buffer-is run fits framed s out q)
+    ∙ ap (λ (n : ℕ). part (a ++ (s ++ drop (length (a ++ s)) out)) (length a) n) (size-is run fits framed s (length out) q)
+    ∙ part-between a s (drop (length (a ++ s)) out)
+
+framed : (run : ℕ) (fits : Bool) (s out : Bytes) → refusal run fits true s (length out) ≡ 0 → cutOf (buffer run fits true s out) ≡ cut.Frame (length s)
+framed run fits s out q =
+    let t : Taken run fits s = record { framed = true; room = length out; answer = q } in
+    ap cutOf (buffer-is run fits true s out q) ∙ round-trip .frame s (drop (length (front true (length s) ++ s)) out) (clear t .short)
+
 pub reread : Reread
+unfolding bodyFits
 reread = record {
   client = client;
   client-alone = client-alone;
   client-narrow = λ f c n t. narrow f c n (clear t .in-range);
+  server-hello = server-hello;
+  server-hello-alone = λ x y joined ends e t.
+      let ps : List Piece = d.serverHelloPieces x y (d.cutAt joined 0 ends) e in
+      alone 15 ps m.serverHello _ (λ z. omega arith) (λ z. omega arith) (round-trip .server-hello x y (d.cutAt joined 0 ends) e (short-alone ps t)) refl;
+  commit-point = commit-point;
+  time-alone = λ t n k. alone 10 (d.timePieces t) m.timeSpec _ (λ z. omega arith) (λ z. omega arith) (round-trip .time-spec t n) refl;
+  log-id-error-abort = note;
+  entry = entry;
+  entry-alone = entry-alone;
+  entry-strings = entry-strings;
+  string-list = λ joined ends t.
+      let ps : List Piece = d.stringListPieces (d.cutAt joined 0 ends) in
+      alone 12 ps m.stringList _ (λ z. omega arith) (λ z. omega arith) (round-trip .strings (d.cutAt joined 0 ends) (short-alone ps t)) refl;
+  number-list = λ vs n t. alone 13 (d.numberListPieces vs) m.numberList _ (λ z. omega arith) (λ z. omega arith) (round-trip .numbers vs n (short-alone (d.numberListPieces vs) t)) refl;
+  laid = laid;
+  framed = framed;
 }

@@ -3,18 +3,24 @@
 -- a writer refuses nothing is refused nothing by its reader, ranges included, and has the values that were written.
 use Prim.Native.Nat.{ℕ, _-_, _^_, _≤_, _<_}
 use mathlib.Core.Path.{_≡_}
-use mathlib.Core.Bool.{Bool}
-use Rattle.schema.specs.Schema.{kindOf, message, ClientMessage}
-use Rattle.fields.specs.Items.{items}
+use mathlib.Core.List.{List, [], _∷_, map}
+use mathlib.Core.Bool.{Bool, true}
+use lib.ListN.{length}
+use Rattle.laws.specs.Base.{part}
+use Rattle.frame.specs.Frame.{cutOf}
+use Rattle.frame.specs.declared.Cut.the-variants as cut
+use Rattle.schema.specs.Schema.{kindOf, message, ClientMessage, ServerMessage, ServerHello, TimeSpec, InfoMessage, StringList, NumberList}
+use Rattle.fields.specs.Items.{Item, items}
+use Rattle.message.specs.Signed.{int64}
 use Rattle.message.specs.Message as m
 use Rattle.message.specs.Message.{Bytes, clientMember}
-use Rattle.wire.specs.Read.{value, clientMessage, readNumber}
-use Rattle.written.specs.Pieces.{encodeAll}
-use Rattle.written.specs.Draft.{ClientDraft, accept, reject, exit, restart, alert, io, window, suspend, clientHello, clientNumber, clientPieces, wrapped, writtenClient, meantClient}
+use Rattle.wire.specs.Read.{value, clientMessage, serverMessage, readNumber}
+use Rattle.written.specs.Pieces.{Piece, bytes, encodeAll, front}
+use Rattle.written.specs.Draft.{Stamp, stampValue, timePieces, serverHelloPieces, stringListPieces, numberListPieces, EntryDraft, entryPieces, ClientDraft, accept, reject, exit, restart, alert, io, window, suspend, clientHello, clientNumber, clientPieces, wrapped, writtenClient, ServerDraft, serverHello, commit, note, writtenServer, meantClient, meantServer, meantEntry, cutAt}
 use Rattle.written.specs.Run.{runRefusal}
-use Rattle.written.specs.Outcome.{refusal}
-use Rattle.written.specs.RoundTrip.{NarrowClient}
-use Rattle.fits.specs.Fits.{clientHelloFits, acceptFits, reportFits, exitFits, restartFits, ioFits, windowFits, suspendFits}
+use Rattle.written.specs.Outcome.{refusal, size, buffer}
+use Rattle.written.specs.RoundTrip.{AllFit, Stamped, EntryParts, NarrowClient}
+use Rattle.fits.specs.Fits.{clientHelloFits, acceptFits, reportFits, exitFits, restartFits, ioFits, windowFits, suspendFits, endsFit, serverHelloFits, timeFits, noteFits, entryFits, entryStringsFits}
 
 -- ---- what is taken
 
@@ -71,14 +77,56 @@ pub record ReadAgain {A : Type 0} (m : ℕ) (s : Bytes) (read : Bytes → A) (v 
   pub no-refusal : readNumber m s ≡ 0
   pub means : read s ≡ v
 
+abbrev pub ClientAgain : ClientDraft → Type 0
+ClientAgain d = ReadAgain ClientMessage (writtenClient d) clientMessage (value (meantClient d))
+
+abbrev pub ServerAgain : ServerDraft → Type 0
+ServerAgain d = ReadAgain ServerMessage (writtenServer d) serverMessage (value (meantServer d))
+
+-- an embedded message by itself, read by its items
+abbrev pub BodyAgain : {A : Type 0} → ℕ → List Piece → (List Item → A) → A → Type 0
+BodyAgain m ps read v = ReadAgain m (encodeAll ps) (λ (s : Bytes). read (items s)) v
+
+-- a run of fields f that a writer takes, with these entries
+pub record RunAgain (f : ℕ) (s : Bytes) (es : List m.Entry) : Type 0 where
+  pub no-refusal : runRefusal f s ≡ 0
+  pub means : m.entries f (items s) ≡ es
+
 -- ---- the claims
 
--- Every member of a ClientMessage, in it and by itself.
+-- Every writer's message: as the member of the message around it, and by itself, which is member 0.
 pub record Reread : Type 0 where
-  pub client : (d : ClientDraft) → Given d → TakenClient (clientNumber d) d
-      → ReadAgain ClientMessage (writtenClient d) clientMessage (value (meantClient d))
+  pub client : (d : ClientDraft) → Given d → TakenClient (clientNumber d) d → ClientAgain d
   pub client-alone : (d : ClientDraft) → Given d → TakenClient 0 d
-      → ReadAgain (kindOf ClientMessage (clientNumber d) - message 0) (encodeAll (clientPieces d))
-      (λ (s : Bytes). clientMember (clientNumber d) (items s)) (meantClient d)
+      → BodyAgain (kindOf ClientMessage (clientNumber d) - message 0) (clientPieces d) (clientMember (clientNumber d)) (meantClient d)
   -- "Each message has one written form": what is taken is narrow enough for `client-form` of RoundTrip
   pub client-narrow : (f : ℕ) (d : ClientDraft) → Given d → TakenClient f d → NarrowClient d
+  -- the servers are "lent as joined bytes and ends"
+  pub server-hello : (id redirect joined : Bytes) (ends : List ℕ) (sub : Bool)
+      → Taken 0 (serverHelloFits 1 joined ends) (wrapped 1 (serverHelloPieces id redirect (cutAt joined 0 ends) sub))
+      → ServerAgain (serverHello id redirect (cutAt joined 0 ends) sub)
+  pub server-hello-alone : (id redirect joined : Bytes) (ends : List ℕ) (sub : Bool)
+      → Taken 0 (serverHelloFits 0 joined ends) (wrapped 0 (serverHelloPieces id redirect (cutAt joined 0 ends) sub))
+      → BodyAgain ServerHello (serverHelloPieces id redirect (cutAt joined 0 ends) sub) m.serverHello
+      (record { serverId = id; redirect = redirect; servers = cutAt joined 0 ends; subcommands = sub })
+  pub commit-point : (t : Stamp) → Taken 0 (timeFits 2 t) (wrapped 2 (timePieces t)) → ServerAgain (commit t)
+  pub time-alone : (t : Stamp) → Stamped t → Taken 0 (timeFits 0 t) (wrapped 0 (timePieces t))
+      → BodyAgain TimeSpec (timePieces t) m.timeSpec (stampValue t)
+  pub log-id-error-abort : (f : ℕ) (d : Bytes) → Taken 0 (noteFits f) (encodeAll (bytes f d ∷ [])) → ServerAgain (note f d)
+  -- an entry with its tag is a run of one entry; its writer takes the fields 2 and 3
+  pub entry : (f : ℕ) → 1 ≤ f → (key : Bytes) (v : EntryDraft) → EntryParts v → Taken 0 (entryFits f key) (wrapped f (entryPieces key v))
+      → RunAgain f (wrapped f (entryPieces key v)) (meantEntry key v ∷ [])
+  pub entry-alone : (key : Bytes) (v : EntryDraft) → EntryParts v → Taken 0 (entryFits 0 key) (wrapped 0 (entryPieces key v))
+      → BodyAgain InfoMessage (entryPieces key v) m.entry (meantEntry key v)
+  -- an entry of strings is asked its ends as well
+  pub entry-strings : (f : ℕ) (key joined : Bytes) (ends : List ℕ) (s : Bytes) → Taken 0 (entryStringsFits f key joined ends) s
+      → Taken 0 (entryFits f key) s
+  pub string-list : (joined : Bytes) (ends : List ℕ) → Taken 0 (endsFit joined ends) (wrapped 0 (stringListPieces (cutAt joined 0 ends)))
+      → BodyAgain StringList (stringListPieces (cutAt joined 0 ends)) m.stringList (cutAt joined 0 ends)
+  pub number-list : (vs : List ℕ) → AllFit vs → Taken 0 true (wrapped 0 (numberListPieces vs))
+      → BodyAgain NumberList (numberListPieces vs) m.numberList (map int64 vs)
+  -- what is taken stands in the buffer, and where it is framed the buffer begins with its frame
+  pub laid : (run : ℕ) (fits framed : Bool) (s out : Bytes) → refusal run fits framed s (length out) ≡ 0
+      → part (buffer run fits framed s out) (length (front framed (length s))) (size run fits framed s (length out)) ≡ s
+  pub framed : (run : ℕ) (fits : Bool) (s out : Bytes) → refusal run fits true s (length out) ≡ 0
+      → cutOf (buffer run fits true s out) ≡ cut.Frame (length s)
