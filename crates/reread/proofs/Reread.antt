@@ -6,7 +6,7 @@ use mathlib.Core.List.{List, [], _∷_, _++_, append-nil, append-assoc}
 use mathlib.Core.Bool.{Bool, true, false}
 use lib.ListN.{length, take, drop}
 use lib.Seq.{take-at, drop-at}
-use lib.Dec.{ltb, leb, eqb, eqb→eq}
+use lib.Dec.{T, ltb, leb, eqb}
 use borrow.Author.Tests.{leb-true, le-leb, ltb-false, eqb-true, eqb-false, eq-eqb, ne-eqb}
 use Rattle.laws.specs.Base.{pick, both, part, splice}
 use Rattle.laws.proofs.Order.{both-true}
@@ -31,9 +31,9 @@ use Rattle.written.specs.Pieces.{Piece, bytes, front, encodeAll}
 use Rattle.written.specs.Draft as d
 use Rattle.written.specs.Draft.{Stamp, stampValue, EntryDraft, ClientDraft, ServerDraft, clientNumber, clientPieces, wrapped, writtenClient, writtenServer, meantClient, meantServer}
 use Rattle.written.specs.Outcome.{refusal, roomRefusal, size, buffer}
-use Rattle.written.specs.RoundTrip.{pieceItems, Numbered, Short, ReadsAs, ClientParts, ServerParts, EntryParts, NarrowClient, Keyed, writtenRun}
-use Rattle.written.proofs.RoundTrip.{round-trip}
-use Rattle.written.proofs.Refusals.{no-refusal}
+use Rattle.written.specs.RoundTrip.{pieceItems, Numbered, Short, ReadsAs, ClientParts, ServerParts, EntryParts, NarrowClient, NarrowServer, Keyed, writtenRun}
+use Rattle.written.proofs.RoundTrip.{io-kind, number-of, wrapped-is, round-trip}
+use Rattle.written.proofs.Refusals.{no-refusal, value-set}
 use Rattle.written.proofs.Embedded as back
 use Rattle.fits.specs.Fits as w
 use Rattle.fits.specs.Fits.{memberIn, dateFits, momentFits, sized}
@@ -161,14 +161,6 @@ meant-fits f (d.window t x y) z q =
 meant-fits f (d.suspend t x) z q = let p = suspend-parts f t x q in rw (moment-in t (p .0), sized-in 1 127 x (p .1))
 meant-fits f (d.clientHello x) z q = refl
 
--- the members 6 to 10 are I/O buffers
-buffers : ℕ → Bool
-buffers f = pick (leb 6 f) (eqb (kindOf 0 f) 22) true
-
-io-kind : (f : ℕ) → 6 ≤ f → f ≤ 10 → kindOf 0 f ≡ 22
-unfolding buffers kindOf schema
-io-kind f h n = eqb→eq (kindOf 0 f) 22 (rw (le-leb 6 f h) at (below buffers 11 tt f (omega arith)))
-
 -- the member's bytes are asked by these
 body-fits : (c : ClientDraft) → ClientParts c → Short (encodeAll (clientPieces c))
     → bodyFits (kindOf 0 (clientNumber c) - 16) (items (encodeAll (clientPieces c))) ≡ meantFits c
@@ -213,37 +205,26 @@ body-number k s h n c b = rw (c, ne-eqb k 0 h, ne-eqb k 14 n, b)
 
 -- ---- a ClientMessage
 
-member-number : (c : ClientDraft) → Given c → (1 ≤ clientNumber c) × (clientNumber c ≤ 13)
-unfolding clientNumber
-member-number (d.accept t r e) n = (omega arith, omega arith)
-member-number (d.reject t x r) n = (omega arith, omega arith)
-member-number (d.exit t v c x y) n = (omega arith, omega arith)
-member-number (d.restart x t) n = (omega arith, omega arith)
-member-number (d.alert t x r) n = (omega arith, omega arith)
-member-number (d.io k t x) n = let a = n .0 in let b = n .1 in (omega arith, omega arith)
-member-number (d.window t x y) n = (omega arith, omega arith)
-member-number (d.suspend t x) n = (omega arith, omega arith)
-member-number (d.clientHello x) n = (omega arith, omega arith)
+-- the members are the messages 1 to 9
+kinds : ℕ → Bool
+kinds f = pick (leb 1 f) (both (leb 17 (kindOf 0 f)) (leb (kindOf 0 f) 25)) true
 
-body-kind : (c : ClientDraft) → Given c → (1 ≤ kindOf 0 (clientNumber c) - 16) × (kindOf 0 (clientNumber c) - 16 ≤ 9)
-unfolding clientNumber kindOf schema
-body-kind (d.accept t r e) n = (omega arith, omega arith)
-body-kind (d.reject t x r) n = (omega arith, omega arith)
-body-kind (d.exit t v c x y) n = (omega arith, omega arith)
-body-kind (d.restart x t) n = (omega arith, omega arith)
-body-kind (d.alert t x r) n = (omega arith, omega arith)
-body-kind (d.io k t x) n = let q : kindOf 0 k ≡ 22 = io-kind k (n .0) (n .1) in (omega arith, omega arith)
-body-kind (d.window t x y) n = (omega arith, omega arith)
-body-kind (d.suspend t x) n = (omega arith, omega arith)
-body-kind (d.clientHello x) n = (omega arith, omega arith)
+passed : (b : Bool) → T b → b ≡ true
+passed true t = refl
+passed false t = absurd t
 
-wrapped-is : (f : ℕ) (ps : List Piece) → 1 ≤ f → wrapped f ps ≡ encodeAll (bytes f (encodeAll ps) ∷ [])
-unfolding wrapped
-wrapped-is f ps h = rw (ne-eqb f 0 (omega arith))
+body-kind : (f : ℕ) → 1 ≤ f → f ≤ 13 → (17 ≤ kindOf 0 f) × (kindOf 0 f ≤ 25)
+unfolding kinds kindOf schema
+body-kind f h k =
+    let p = both-true (leb 17 (kindOf 0 f)) (leb (kindOf 0 f) 25) (passed _ (rw (le-leb 1 f h) at (below kinds 14 tt f (omega arith)))) in
+    (leb-true 17 (kindOf 0 f) (p .0), leb-true (kindOf 0 f) 25 (p .1))
 
 unwrapped : (ps : List Piece) → wrapped 0 ps ≡ encodeAll ps
 unfolding wrapped
 unwrapped ps = refl
+
+writable : (f : ℕ) (c : ClientDraft) → Given c → Clear (runOf c) (valuesFit f c) (wrapped f (clientPieces c)) → ClientParts c
+writable f c n k = parts c n (k .run-taken) (narrow f c n (k .in-range))
 
 client : (c : ClientDraft) → Given c → TakenClient (clientNumber c) c → ClientAgain c
 unfolding clientMessage
@@ -251,8 +232,8 @@ client c n t =
     let k = clear t in
     let f : ℕ = clientNumber c in
     let x : Bytes = encodeAll (clientPieces c) in
-    let b = member-number c n in
-    let p = parts c n (k .run-taken) (narrow f c n (k .in-range)) in
+    let p = writable f c n k in
+    let b = number-of c p in
     let short = k .short in
     let q = wrapped-is f (clientPieces c) (b .0) in
     let s : Short (encodeAll (bytes f x ∷ [])) = rw q at (short-of (writtenClient c) short) in
@@ -266,10 +247,11 @@ client-alone : (c : ClientDraft) → Given c → TakenClient 0 c
 client-alone c n t =
     let k = clear t in
     let x : Bytes = encodeAll (clientPieces c) in
-    let p = parts c n (k .run-taken) (narrow 0 c n (k .in-range)) in
+    let p = writable 0 c n k in
     let s : Short x = rw (unwrapped (clientPieces c)) at (short-of (wrapped 0 (clientPieces c)) (k .short)) in
     let r = round-trip .body c p s in
-    let b = body-kind c n in
+    let h = number-of c p in
+    let b = body-kind (clientNumber c) (h .0) (h .1) in
     let from = b .0 in
     let to = b .1 in
     record {
@@ -302,13 +284,19 @@ server-hello x y joined ends e t =
     let ps : List Piece = d.serverHelloPieces x y (d.cutAt joined 0 ends) e in
     server (d.serverHello x y (d.cutAt joined 0 ends) e) 1 (encodeAll ps) tt (wrapped-is 1 ps (omega arith)) (omega arith) (omega arith) (clear t .short) refl
 
+commit-fits : (t : Stamp) → Taken 0 (w.timeFits 2 t) (wrapped 2 (d.timePieces t)) → momentFits t ≡ true
+unfolding w.timeFits
+commit-fits t k = clear k .in-range
+
+commit-narrow : (t : Stamp) → Taken 0 (w.timeFits 2 t) (wrapped 2 (d.timePieces t)) → NarrowServer (d.commit t)
+commit-narrow t k = moment-narrow t (commit-fits t k)
+
 commit-point : (t : Stamp) → Taken 0 (w.timeFits 2 t) (wrapped 2 (d.timePieces t)) → ServerAgain (d.commit t)
-unfolding writtenServer w.timeFits
+unfolding writtenServer
 commit-point t k =
-    let q : momentFits t ≡ true = clear k .in-range in
-    let n = stamped t (moment-narrow t q) in
+    let n = stamped t (commit-narrow t k) in
     server (d.commit t) 2 (d.time t) n (wrapped-is 2 (d.timePieces t) (omega arith)) (omega arith) (omega arith) (clear k .short)
-    (ap l.momentFits (back.time-back t n .means) ∙ moment-in t q)
+    (ap l.momentFits (back.time-back t n .means) ∙ moment-in t (commit-fits t k))
 
 note : (f : ℕ) (x : Bytes) → Taken 0 (w.noteFits f) (encodeAll (bytes f x ∷ [])) → ServerAgain (d.note f x)
 unfolding writtenServer
@@ -334,13 +322,6 @@ small-member : (f : ℕ) → 1 ≤ f → memberIn 2 3 f ≡ true → f ≤ 3
 unfolding memberIn
 small-member f h q =
     let p : both (leb 2 f) (leb f 3) ≡ true = rw (ne-eqb f 0 (omega arith)) at q in leb-true f 3 (both-true (leb 2 f) (leb f 3) p .1)
-
-value-set : (v : EntryDraft) → l.isSet (d.meantValue v) ≡ true
-unfolding l.isSet d.meantValue
-value-set (d.numval v) = refl
-value-set (d.strval x) = refl
-value-set (d.strlistval ds) = refl
-value-set (d.numlistval vs) = refl
 
 entry-alone : (key : Bytes) (v : EntryDraft) → EntryParts v → Taken 0 (w.entryFits 0 key) (wrapped 0 (d.entryPieces key v))
     → BodyAgain 11 (d.entryPieces key v) m.entry (d.meantEntry key v)
@@ -414,12 +395,14 @@ unfolding bodyFits
 reread = record {
   client = client;
   client-alone = client-alone;
+  client-writable = λ c n t. (writable (clientNumber c) c n (clear t), short-of (writtenClient c) (clear t .short));
   client-narrow = λ f c n t. narrow f c n (clear t .in-range);
   server-hello = server-hello;
   server-hello-alone = λ x y joined ends e t.
       let ps : List Piece = d.serverHelloPieces x y (d.cutAt joined 0 ends) e in
       alone 15 ps m.serverHello _ (λ z. omega arith) (λ z. omega arith) (round-trip .server-hello x y (d.cutAt joined 0 ends) e (short-alone ps t)) refl;
   commit-point = commit-point;
+  commit-narrow = commit-narrow;
   time-alone = λ t n k. alone 10 (d.timePieces t) m.timeSpec _ (λ z. omega arith) (λ z. omega arith) (round-trip .time-spec t n) refl;
   log-id-error-abort = note;
   entry = entry;

@@ -19,7 +19,7 @@ use Rattle.written.specs.Pieces.{Piece, bytes, encodeAll, front}
 use Rattle.written.specs.Draft.{Stamp, stampValue, timePieces, serverHelloPieces, stringListPieces, numberListPieces, EntryDraft, entryPieces, ClientDraft, accept, reject, exit, restart, alert, io, window, suspend, clientHello, clientNumber, clientPieces, wrapped, writtenClient, ServerDraft, serverHello, commit, note, writtenServer, meantClient, meantServer, meantEntry, cutAt}
 use Rattle.written.specs.Run.{runRefusal}
 use Rattle.written.specs.Outcome.{refusal, size, buffer}
-use Rattle.written.specs.RoundTrip.{AllFit, Stamped, EntryParts, NarrowClient}
+use Rattle.written.specs.RoundTrip.{AllFit, Stamped, EntryParts, WritableClient, NarrowClient, NarrowServer}
 use Rattle.fits.specs.Fits.{clientHelloFits, acceptFits, reportFits, exitFits, restartFits, ioFits, windowFits, suspendFits, endsFit, serverHelloFits, timeFits, noteFits, entryFits, entryStringsFits}
 
 -- ---- what is taken
@@ -99,7 +99,8 @@ pub record Reread : Type 0 where
   pub client : (d : ClientDraft) → Given d → TakenClient (clientNumber d) d → ClientAgain d
   pub client-alone : (d : ClientDraft) → Given d → TakenClient 0 d
       → BodyAgain (kindOf ClientMessage (clientNumber d) - message 0) (clientPieces d) (clientMember (clientNumber d)) (meantClient d)
-  -- "Each message has one written form": what is taken is narrow enough for `client-form` of RoundTrip
+  -- what is taken keeps what RoundTrip asks: to read back, and, for "Each message has one written form", to mean one form
+  pub client-writable : (d : ClientDraft) → Given d → TakenClient (clientNumber d) d → WritableClient d
   pub client-narrow : (f : ℕ) (d : ClientDraft) → Given d → TakenClient f d → NarrowClient d
   -- the servers are "lent as joined bytes and ends"
   pub server-hello : (id redirect joined : Bytes) (ends : List ℕ) (sub : Bool)
@@ -110,6 +111,7 @@ pub record Reread : Type 0 where
       → BodyAgain ServerHello (serverHelloPieces id redirect (cutAt joined 0 ends) sub) m.serverHello
       (record { serverId = id; redirect = redirect; servers = cutAt joined 0 ends; subcommands = sub })
   pub commit-point : (t : Stamp) → Taken 0 (timeFits 2 t) (wrapped 2 (timePieces t)) → ServerAgain (commit t)
+  pub commit-narrow : (t : Stamp) → Taken 0 (timeFits 2 t) (wrapped 2 (timePieces t)) → NarrowServer (commit t)
   pub time-alone : (t : Stamp) → Stamped t → Taken 0 (timeFits 0 t) (wrapped 0 (timePieces t))
       → BodyAgain TimeSpec (timePieces t) m.timeSpec (stampValue t)
   pub log-id-error-abort : (f : ℕ) (d : Bytes) → Taken 0 (noteFits f) (encodeAll (bytes f d ∷ [])) → ServerAgain (note f d)
