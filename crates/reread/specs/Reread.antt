@@ -1,6 +1,6 @@
 -- What a writer takes is read again. Document 01: "What the writer writes reads back as the same values." The ranges stand twice:
 -- a writer asks those of `fits`, on the numbers it is given, a reader those of `range`, on the values it read. Here a message that
--- a writer refuses nothing is refused nothing by its reader, ranges included, and has the values that were written.
+-- a writer makes without a refusal is read without one, ranges included, and has the values that were written.
 use Prim.Native.Nat.{ℕ, _-_, _^_, _≤_, _<_}
 use mathlib.Core.Path.{_≡_}
 use mathlib.Core.List.{List, [], _∷_, map}
@@ -94,7 +94,9 @@ pub record RunAgain (f : ℕ) (s : Bytes) (es : List m.Entry) : Type 0 where
 
 -- ---- the claims
 
--- Every writer's message: as the member of the message around it, and by itself, which is member 0.
+-- Every message of `client_writer`, `server_writer` and `entry_writer`: as the member of the message around it, an entry as a field
+-- of its run, and by itself, which is member 0. `Given`, `Stamped`, `EntryParts` and `AllFit` say that numbers have 64 bits, as
+-- the writers' arguments do.
 pub record Reread : Type 0 where
   pub client : (d : ClientDraft) → Given d → TakenClient (clientNumber d) d → ClientAgain d
   pub client-alone : (d : ClientDraft) → Given d → TakenClient 0 d
