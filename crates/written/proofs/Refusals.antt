@@ -204,7 +204,7 @@ run-joined-taken f a b x y =
 
 -- ---- one entry
 
-value-set : (v : EntryDraft) → isSet (meantValue v) ≡ true
+pub value-set : (v : EntryDraft) → isSet (meantValue v) ≡ true
 unfolding isSet meantValue
 value-set (numval v) = refl
 value-set (strval d) = refl

@@ -66,7 +66,7 @@ client-kind f h l = both-true (takes (kindOf 0 f) 2) (leb 16 (kindOf 0 f)) (rw (
 buffers : ℕ → Bool
 buffers f = pick (leb 6 f) (eqb (kindOf 0 f) 22) true
 
-io-kind : (f : ℕ) → 6 ≤ f → f ≤ 10 → kindOf 0 f ≡ 22
+pub io-kind : (f : ℕ) → 6 ≤ f → f ≤ 10 → kindOf 0 f ≡ 22
 unfolding buffers kindOf schema
 io-kind f h l = eqb→eq (kindOf 0 f) 22 (rw (le-leb 6 f h) at (below buffers 11 tt f (omega arith)))
 
@@ -95,7 +95,7 @@ body-back (d.window t x y) p h = let b = window-back t x y (p .0) (p .1 .0) (p .
 body-back (d.suspend t x) p h = let b = suspend-back t x p h in record { fine = b .fine; means = ap m.suspendEvent (b .means) }
 body-back (d.clientHello x) p h = let b = client-hello-back x h in record { fine = b .fine; means = ap m.helloMsg (b .means) }
 
-number-of : (c : ClientDraft) → ClientParts c → (1 ≤ clientNumber c) × (clientNumber c ≤ 13)
+pub number-of : (c : ClientDraft) → ClientParts c → (1 ≤ clientNumber c) × (clientNumber c ≤ 13)
 unfolding clientNumber
 number-of (d.accept t r e) p = (omega arith, omega arith)
 number-of (d.reject t x r) p = (omega arith, omega arith)
@@ -111,7 +111,7 @@ short-first : (a b : Bytes) → Short (a ++ b) → Short a
 short-first a b h = omega (arith, length-append a b)
 
 -- a message as the member f of the one around it
-wrapped-is : (f : ℕ) (ps : List Piece) → 1 ≤ f → wrapped f ps ≡ encodeAll (bytes f (encodeAll ps) ∷ [])
+pub wrapped-is : (f : ℕ) (ps : List Piece) → 1 ≤ f → wrapped f ps ≡ encodeAll (bytes f (encodeAll ps) ∷ [])
 unfolding wrapped
 wrapped-is f ps h = rw (ne-eqb f 0 (omega arith))
 
