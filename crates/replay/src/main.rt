@@ -7,8 +7,8 @@ use libc::STDOUT_FILENO;
 use report::Replay;
 use report::start;
 use report::turn;
-use report::window::Next;
-use report::window::slide;
+use window::Next;
+use window::slide;
 ghost use Prim.Native.Nat.{_≤_};
 ghost use lib.ListN.{length};
 

@@ -12,10 +12,9 @@ ghost use mathlib.Core.Path.{_≡_};
 ghost use Prim.Native.Nat.{_≤_};
 ghost use lib.ListN.{length};
 ghost use Rattle.wording.specs.Wording.{written, lineLength};
-ghost use Rattle.report.specs.Window as w;
-ghost use Rattle.report.specs.Window.{turned, Within};
-
-pub mod window;
+ghost use Rattle.window.specs.Window.{Within};
+ghost use Rattle.report.specs.Turn as t;
+ghost use Rattle.report.specs.Turn.{turned};
 
 // What a replay carries from frame to frame: the session, the used length that it last answered, how many frames it was handed.
 pub struct Replay {
@@ -32,7 +31,7 @@ pub struct Shown {
 }
 
 pub fn start() -> Replay
-    ensures { λ r. ⌜ r ≡ w.started ⌝ }
+    ensures { λ r. ⌜ r ≡ t.started ⌝ }
 {
     let session = open();
     Replay {
@@ -43,7 +42,7 @@ pub fn start() -> Replay
 }
 
 fn counted(n: u64) -> u64
-    ensures { λ r. ⌜ r ≡ w.counted n ⌝ }
+    ensures { λ r. ⌜ r ≡ t.counted n ⌝ }
 {
     if n < 18446744073709551615 {
         return n + 1;

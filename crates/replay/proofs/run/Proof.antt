@@ -1,4 +1,4 @@
-use Rattle.report.specs.Window.{Within}
+use Rattle.window.specs.Window.{Within}
 use Rattle.laws.proofs.Parts.{length-part}
 use Rattle.laws.specs.Base.{part}
 use lib.Seq.{length-take-le}

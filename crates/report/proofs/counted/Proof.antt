@@ -1,4 +1,4 @@
-use Rattle.report.specs.Window as w
+use Rattle.report.specs.Turn as w
 use Rattle.laws.proofs.Tests.{tests}
 use borrow.Author.Needs.{needs}
 use Rattle.report.proofs.counted.Statement.{statement}

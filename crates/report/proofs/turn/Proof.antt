@@ -1,15 +1,16 @@
 use Rattle.session.specs.Answer.{outcome}
 use Rattle.words.specs.Words.{memberOf}
 use Rattle.wording.specs.Wording.{frameLine, written, lineLength}
-use Rattle.report.specs.Window.{answered, counted}
+use Rattle.report.specs.Turn.{answered, counted}
 use Rattle.session.specs.Step.{Outcome}
 use Rattle.laws.specs.Base.{part}
 use mathlib.Core.List.{List, []}
 use mathlib.Core.Path.{_≡_}
 use Prim.Native.Nat.{ℕ}
 use Rattle.wording.proofs.Lines.{silent, same-line}
-use Rattle.report.proofs.Cuts.{within}
-use Rattle.report.specs.Window.{turned, byNext, handed, Within}
+use Rattle.window.specs.Window.{Within}
+use Rattle.window.proofs.Cuts.{within}
+use Rattle.report.specs.Turn.{turned, byNext, handed}
 use lib.ListN.{length}
 use native.Mathlib.Omega.{arith}
 use mathlib.Core.Path.{sym, ap, subst, refl, _∙_}

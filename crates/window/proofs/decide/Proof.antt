@@ -1,12 +1,12 @@
 use lib.ListN.{length}
-use Rattle.report.specs.Window.{byCut, nextOf}
-use Rattle.report.proofs.Cuts.{Sized, sized}
+use Rattle.window.specs.Window.{byCut, nextOf}
+use Rattle.window.proofs.Cuts.{Sized, sized}
 use borrow.Author.Tests.{lt-ltb, le-ltb}
 use native.Mathlib.Omega.{arith}
 use mathlib.Core.Path.{sym, subst, _∙_}
 use borrow.Author.Needs.{needs}
-use Rattle.report.proofs.window.decide.Statement.{statement}
-use Rattle.report.proofs.window.decide.Tie as tie
+use Rattle.window.proofs.decide.Statement.{statement}
+use Rattle.window.proofs.decide.Tie as tie
 
 cut-frame-requires : tie.Need-cut-frame-requires
 cut-frame-requires c κs = search needs

@@ -4,7 +4,7 @@ use frame::cut_frame;
 ghost use mathlib.Core.Path.{_≡_};
 ghost use Prim.Native.Nat.{_≤_};
 ghost use lib.ListN.{length};
-ghost use Rattle.report.specs.Window.{nextOf, slid};
+ghost use Rattle.window.specs.Window.{nextOf, slid};
 
 // What the bytes at hand call for.
 pub enum Next {

@@ -9,7 +9,7 @@ use lib.ListN.{length, take, drop, set, getD, length-drop}
 use lib.Seq.{paste, paste-suc, drop-paste, getD-drop, length-take-le}
 use borrow.Author.Tests.{le-leb, lt-leb}
 use Rattle.laws.specs.Base.{splice}
-use Rattle.report.specs.Window.{slid}
+use Rattle.window.specs.Window.{slid}
 
 module _ (w : List ℕ) (from : ℕ) where
   -- the window once n bytes are moved

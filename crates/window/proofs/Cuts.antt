@@ -9,8 +9,8 @@ use Rattle.laws.proofs.Order.{picked}
 use Rattle.frame.specs.Frame.{cutOf, lengthOf, largest}
 use Rattle.frame.specs.declared.Cut.{Cut}
 use Rattle.frame.specs.declared.Cut.the-variants as cut
-use Rattle.report.specs.Window.{byCut, nextOf, Within}
-use Rattle.report.specs.declared.window.Next.the-variants.{Wait, Beyond}
+use Rattle.window.specs.Window.{byCut, nextOf, Within}
+use Rattle.window.specs.declared.Next.the-variants.{Wait, Beyond}
 
 abbrev pub Sized : ℕ → Cut → Type 0
 Sized n (cut.Wait missing) = n + missing ≤ 2097156

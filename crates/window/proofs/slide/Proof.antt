@@ -1,4 +1,4 @@
-use Rattle.report.proofs.Slides.{moved, move-one, all-moved, not-held, turned-round}
+use Rattle.window.proofs.Slides.{moved, move-one, all-moved, not-held, turned-round}
 use borrow.Author.Needs.{needs}
 use lib.Seq.{paste-zero}
 use lib.ListN.{length, set, getD, drop, length-set}
@@ -6,8 +6,8 @@ use mathlib.Core.List.{List}
 use native.Mathlib.Omega.{arith}
 use Prim.Native.Nat.{ℕ, _+_, _-_, _≤_}
 use mathlib.Core.Path.{_≡_, refl, ap, _∙_}
-use Rattle.report.proofs.window.slide.Statement.{statement}
-use Rattle.report.proofs.window.slide.Tie as tie
+use Rattle.window.proofs.slide.Statement.{statement}
+use Rattle.window.proofs.slide.Tie as tie
 
 abbrev Inv-loop : tie.InvT-loop
 Inv-loop window₀ from held i₀ window i =
