@@ -1,7 +1,8 @@
 -- Each line computes to the one that is shown. Assumes nothing.
 use mathlib.Core.Path.{refl}
 use Rattle.ending.specs.Examples.{LineExamples}
-use Rattle.words.specs.Words.{digits, decimal, memberName, stateName}
+use Rattle.words.specs.Words.{digits, decimal}
+use Rattle.names.specs.Names.{memberName, stateName}
 use Rattle.wording.specs.Wording.{verdict, pointText, keyText, frameLine}
 use Rattle.ending.specs.Ending.{ending, endLine}
 

@@ -1,4 +1,4 @@
-// Entries and lists. An entry is written by itself, or tagged as in the run of an AcceptMessage (member 2), a RejectMessage or
+// Entries. An entry is written by itself, or tagged as in the run of an AcceptMessage (member 2), a RejectMessage or
 // an AlertMessage (member 3): runs are tagged entries one after the other. Lists of strings are lent as joined bytes and ends.
 use fits::both;
 use fits::member_in;
@@ -9,61 +9,11 @@ use layout::write::write_message;
 use layout::write::write_plain;
 use lists::ends_fit;
 ghost use mathlib.Core.Path.{_≡_};
-ghost use mathlib.Core.Bool.{true};
 ghost use lib.ListN.{length};
-ghost use Rattle.written.specs.Draft.{numval, strval, strlistval, numlistval, entryPieces, stringListPieces, numberListPieces, cutAt, wrapped};
+ghost use Rattle.written.specs.Draft.{numval, strval, strlistval, numlistval, entryPieces, cutAt, wrapped};
 ghost use Rattle.written.specs.Outcome.{buffer};
-ghost use Rattle.fits.specs.Fits.{endsFit, entryFits, entryStringsFits};
+ghost use Rattle.fits.specs.Fits.{entryFits, entryStringsFits};
 ghost use Rattle.layout.specs.Wrote.{wrote};
-
-// A StringList by itself.
-pub fn write_string_list(joined: &[u8], ends: &[usize], framed: bool, out: &mut [u8]) -> Wrote
-    ensures answer { λ r. ⌜ r ≡ wrote 0 (endsFit (now (joined .entry)) (now (ends .entry))) framed (wrapped 0 (stringListPieces (cutAt (now (joined .entry)) 0 (now (ends .entry))))) (length (now (out .entry))) ⌝ }
-    ensures buffer { λ r. ⌜ now (out .exit) ≡ buffer 0 (endsFit (now (joined .entry)) (now (ends .entry))) framed (wrapped 0 (stringListPieces (cutAt (now (joined .entry)) 0 (now (ends .entry))))) (now (out .entry)) ⌝ }
-{
-    let fits = ends_fit(joined.len(), ends);
-    let p = listed(1, 0, 0);
-    write_message(
-        0,
-        fits,
-        0,
-        p,
-        &[],
-        &[],
-        joined,
-        ends,
-        &[],
-        &[],
-        &[],
-        &[],
-        framed,
-        out,
-    )
-}
-
-// A NumberList by itself.
-pub fn write_number_list(numbers: &[u64], framed: bool, out: &mut [u8]) -> Wrote
-    ensures answer { λ r. ⌜ r ≡ wrote 0 (true) framed (wrapped 0 (numberListPieces (now (numbers .entry)))) (length (now (out .entry))) ⌝ }
-    ensures buffer { λ r. ⌜ now (out .exit) ≡ buffer 0 (true) framed (wrapped 0 (numberListPieces (now (numbers .entry)))) (now (out .entry)) ⌝ }
-{
-    let p = listed(0, 0, 0);
-    write_message(
-        0,
-        true,
-        0,
-        p,
-        &[],
-        &[],
-        &[],
-        &[],
-        numbers,
-        &[],
-        &[],
-        &[],
-        framed,
-        out,
-    )
-}
 
 fn entry_fits(member: u64, key: &[u8]) -> bool
     ensures { λ r. ⌜ r ≡ entryFits member (now (key .entry)) ⌝ }

@@ -4,7 +4,7 @@ use mathlib.Core.List.{List, []}
 use lib.Dec.{ltb}
 use Rattle.laws.specs.Base.{pick, part}
 use Rattle.session.specs.Step.{Outcome, step, opened}
-use Rattle.words.specs.Words.{memberOf}
+use Rattle.names.specs.Names.{memberOf}
 use Rattle.wording.specs.Wording.{frameLine}
 use Rattle.ending.specs.Ending.{endLine}
 use Rattle.ending.specs.declared.End.the-variants as end

@@ -9,7 +9,8 @@ use Rattle.session.specs.Step.{Outcome}
 use Rattle.session.specs.declared.State.{State}
 use Rattle.session.specs.declared.Point.{Point}
 use Rattle.session.specs.declared.Point.the-variants as point
-use Rattle.words.specs.Words.{text, decimal, nine, memberName, stateName}
+use Rattle.words.specs.Words.{text, decimal, nine}
+use Rattle.names.specs.Names.{memberName, stateName}
 
 -- ---- the line of a frame
 

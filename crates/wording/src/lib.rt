@@ -1,20 +1,20 @@
 // The line of a frame, written at the start of a lent buffer. A buffer of 256 bytes has room for it.
+use names::member_of;
+use names::put_member;
+use names::put_state;
 use pieces::part::put_raw;
 use session::Answer;
 use session::Point;
 use session::State;
-use words::member_of;
 use words::put_decimal;
-use words::put_member;
 use words::put_nine;
-use words::put_state;
 ghost use mathlib.Core.Path.{_≡_};
 ghost use mathlib.Core.List.{[]};
 ghost use Prim.Native.Nat.{_+_, _≤_};
 ghost use lib.ListN.{length};
 ghost use Rattle.pieces.specs.Put.{Put};
 ghost use Rattle.session.specs.Answer.{outcome};
-ghost use Rattle.words.specs.Words.{memberOf};
+ghost use Rattle.names.specs.Names.{memberOf};
 ghost use Rattle.wording.specs.Wording.{heading, verdict, standing, pointText, keyText, frameLine, written, lineLength};
 
 fn put_heading(out: &mut [u8], n: u64) -> usize

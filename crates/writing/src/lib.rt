@@ -89,7 +89,7 @@ pub extern "C" fn sudolog_write_exit(
     ensures answer { λ r. ⌜ r ≡ answerOf (wrote 0 (exitFits member (stamp seconds nanos) «exit_value» (now (signal .entry))) (bool framed) (wrapped member (exitPieces (stamp seconds nanos) «exit_value» (bool «dumped_core») (now (signal .entry)) (now (error .entry)))) (length (now (out .entry)))) ⌝ }
     ensures buffer { λ r. ⌜ now (out .exit) ≡ buffer 0 (exitFits member (stamp seconds nanos) «exit_value» (now (signal .entry))) (bool framed) (wrapped member (exitPieces (stamp seconds nanos) «exit_value» (bool «dumped_core») (now (signal .entry)) (now (error .entry)))) (now (out .entry)) ⌝ }
 {
-    answer(client_writer::write_exit(
+    answer(record_writer::write_exit(
         member,
         seconds,
         nanos,
@@ -129,7 +129,7 @@ pub extern "C" fn sudolog_write_io(
     ensures answer { λ r. ⌜ r ≡ answerOf (wrote 0 (ioFits member (stamp seconds nanos)) (bool framed) (wrapped member (timedPieces (stamp seconds nanos) (now («data» .entry)))) (length (now (out .entry)))) ⌝ }
     ensures buffer { λ r. ⌜ now (out .exit) ≡ buffer 0 (ioFits member (stamp seconds nanos)) (bool framed) (wrapped member (timedPieces (stamp seconds nanos) (now («data» .entry)))) (now (out .entry)) ⌝ }
 {
-    answer(client_writer::write_io(member, seconds, nanos, data, framed != 0, out))
+    answer(record_writer::write_io(member, seconds, nanos, data, framed != 0, out))
 }
 
 #[no_mangle]
@@ -145,7 +145,7 @@ pub extern "C" fn sudolog_write_window_size(
     ensures answer { λ r. ⌜ r ≡ answerOf (wrote 0 (windowFits member (stamp seconds nanos) rows cols) (bool framed) (wrapped member (windowPieces (stamp seconds nanos) rows cols)) (length (now (out .entry)))) ⌝ }
     ensures buffer { λ r. ⌜ now (out .exit) ≡ buffer 0 (windowFits member (stamp seconds nanos) rows cols) (bool framed) (wrapped member (windowPieces (stamp seconds nanos) rows cols)) (now (out .entry)) ⌝ }
 {
-    answer(client_writer::write_window_size(member, seconds, nanos, rows, cols, framed != 0, out))
+    answer(record_writer::write_window_size(member, seconds, nanos, rows, cols, framed != 0, out))
 }
 
 #[no_mangle]
@@ -160,7 +160,7 @@ pub extern "C" fn sudolog_write_suspend(
     ensures answer { λ r. ⌜ r ≡ answerOf (wrote 0 (suspendFits member (stamp seconds nanos) (now (signal .entry))) (bool framed) (wrapped member (timedPieces (stamp seconds nanos) (now (signal .entry)))) (length (now (out .entry)))) ⌝ }
     ensures buffer { λ r. ⌜ now (out .exit) ≡ buffer 0 (suspendFits member (stamp seconds nanos) (now (signal .entry))) (bool framed) (wrapped member (timedPieces (stamp seconds nanos) (now (signal .entry)))) (now (out .entry)) ⌝ }
 {
-    answer(client_writer::write_suspend(member, seconds, nanos, signal, framed != 0, out))
+    answer(record_writer::write_suspend(member, seconds, nanos, signal, framed != 0, out))
 }
 
 #[no_mangle]
@@ -173,7 +173,7 @@ pub extern "C" fn sudolog_write_string_list(
     ensures answer { λ r. ⌜ r ≡ answerOf (wrote 0 (endsFit (now (joined .entry)) (now (ends .entry))) (bool framed) (wrapped 0 (stringListPieces (cutAt (now (joined .entry)) 0 (now (ends .entry))))) (length (now (out .entry)))) ⌝ }
     ensures buffer { λ r. ⌜ now (out .exit) ≡ buffer 0 (endsFit (now (joined .entry)) (now (ends .entry))) (bool framed) (wrapped 0 (stringListPieces (cutAt (now (joined .entry)) 0 (now (ends .entry))))) (now (out .entry)) ⌝ }
 {
-    answer(entry_writer::write_string_list(joined, ends, framed != 0, out))
+    answer(list_writer::write_string_list(joined, ends, framed != 0, out))
 }
 
 #[no_mangle]
@@ -181,7 +181,7 @@ pub extern "C" fn sudolog_write_number_list(numbers: &[u64], framed: u8, out: &m
     ensures answer { λ r. ⌜ r ≡ answerOf (wrote 0 (true) (bool framed) (wrapped 0 (numberListPieces (now (numbers .entry)))) (length (now (out .entry)))) ⌝ }
     ensures buffer { λ r. ⌜ now (out .exit) ≡ buffer 0 (true) (bool framed) (wrapped 0 (numberListPieces (now (numbers .entry)))) (now (out .entry)) ⌝ }
 {
-    answer(entry_writer::write_number_list(numbers, framed != 0, out))
+    answer(list_writer::write_number_list(numbers, framed != 0, out))
 }
 
 #[no_mangle]

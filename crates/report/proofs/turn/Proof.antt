@@ -1,5 +1,5 @@
 use Rattle.session.specs.Answer.{outcome}
-use Rattle.words.specs.Words.{memberOf}
+use Rattle.names.specs.Names.{memberOf}
 use Rattle.wording.specs.Wording.{frameLine, written, lineLength}
 use Rattle.report.specs.Turn.{answered, counted}
 use Rattle.session.specs.Step.{Outcome}

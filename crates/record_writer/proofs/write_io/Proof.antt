@@ -6,8 +6,8 @@ use Rattle.laws.proofs.Order.{both-true}
 use native.Mathlib.Omega.{arith}
 use mathlib.Core.Path.{refl, sym, _∙_}
 use borrow.Author.Needs.{needs}
-use Rattle.client_writer.proofs.write_suspend.Statement.{statement}
-use Rattle.client_writer.proofs.write_suspend.Tie as tie
+use Rattle.record_writer.proofs.write_io.Statement.{statement}
+use Rattle.record_writer.proofs.write_io.Tie as tie
 
 member-in-requires : tie.Need-member-in-requires
 member-in-requires c κs = search needs
@@ -15,14 +15,8 @@ member-in-requires c κs = search needs
 moment-fits-requires : tie.Need-moment-fits-requires
 moment-fits-requires c κs = search needs
 
-sized-requires : tie.Need-sized-requires
-sized-requires c κs = search needs
-
 both-requires : tie.Need-both-requires
 both-requires c κs = search needs
-
-both-requires-2 : tie.Need-both-requires-2
-both-requires-2 c κs = search needs
 
 timed-requires : tie.Need-timed-requires
 timed-requires c κs = search needs
@@ -40,24 +34,22 @@ slice-aggregate-write-plain-4 : tie.Need-slice-aggregate-write-plain-4
 slice-aggregate-write-plain-4 c = search needs
 
 write-plain-requires : tie.Need-write-plain-requires
-write-plain-requires c κs = λ h. member-small 12 12 _ (omega arith) (c .before .before .before .before .before .before .before .before .before .before .member-in .ensures) (both-true _ _ (sym (c .before .before .before .before .before .before .both2 .ensures) ∙ h) .0)
+write-plain-requires c κs = λ h. member-small 6 10 _ (omega arith) (c .before .before .before .before .before .before .before .before .member-in .ensures) (both-true _ _ (sym (c .before .before .before .before .before .before .both .ensures) ∙ h) .0)
 
 same-length : tie.Need-same-length
 same-length c = search needs
 
 returns : tie.Need-returns
 unfolding encode around cover
-returns c = same-outcome (c .before .before .write-plain .ensures) _ _ _ refl (both-same (c .before .before .before .before .before .before .before .before .before .both2 .ensures) (c .before .before .before .before .before .before .before .before .before .before .before .before .before .member-in .ensures) (both-same (c .before .before .before .before .before .before .before .before .before .before .both .ensures) (c .before .before .before .before .before .before .before .before .before .before .before .before .moment-fits .ensures) (c .before .before .before .before .before .before .before .before .before .before .before .sized .ensures))) (λ h. rw (c .before .before .before .before .before .before .before .before .timed .ensures) (same-wrapped _ _ _ refl))
+returns c = same-outcome (c .before .before .write-plain .ensures) _ _ _ refl (both-same (c .before .before .before .before .before .before .before .before .before .both .ensures) (c .before .before .before .before .before .before .before .before .before .before .before .member-in .ensures) (c .before .before .before .before .before .before .before .before .before .before .moment-fits .ensures)) (λ h. rw (c .before .before .before .before .before .before .before .before .timed .ensures) (same-wrapped _ _ _ refl))
 
-pub write-suspend-spec : {M : Type 1} → statement M
-write-suspend-spec =
+pub write-io-spec : {M : Type 1} → statement M
+write-io-spec =
     tie.close
     (tie.spec
     member-in-requires
     moment-fits-requires
-    sized-requires
     both-requires
-    both-requires-2
     timed-requires
     slice-aggregate-write-plain
     slice-aggregate-write-plain-2

@@ -6,8 +6,8 @@ use Rattle.laws.proofs.Order.{both-true}
 use native.Mathlib.Omega.{arith}
 use mathlib.Core.Path.{refl, sym, _∙_}
 use borrow.Author.Needs.{needs}
-use Rattle.client_writer.proofs.write_window_size.Statement.{statement}
-use Rattle.client_writer.proofs.write_window_size.Tie as tie
+use Rattle.record_writer.proofs.write_suspend.Statement.{statement}
+use Rattle.record_writer.proofs.write_suspend.Tie as tie
 
 member-in-requires : tie.Need-member-in-requires
 member-in-requires c κs = search needs
@@ -15,14 +15,14 @@ member-in-requires c κs = search needs
 moment-fits-requires : tie.Need-moment-fits-requires
 moment-fits-requires c κs = search needs
 
+sized-requires : tie.Need-sized-requires
+sized-requires c κs = search needs
+
 both-requires : tie.Need-both-requires
 both-requires c κs = search needs
 
 both-requires-2 : tie.Need-both-requires-2
 both-requires-2 c κs = search needs
-
-both-requires-3 : tie.Need-both-requires-3
-both-requires-3 c κs = search needs
 
 timed-requires : tie.Need-timed-requires
 timed-requires c κs = search needs
@@ -39,34 +39,30 @@ slice-aggregate-write-plain-3 c = search needs
 slice-aggregate-write-plain-4 : tie.Need-slice-aggregate-write-plain-4
 slice-aggregate-write-plain-4 c = search needs
 
-slice-aggregate-write-plain-5 : tie.Need-slice-aggregate-write-plain-5
-slice-aggregate-write-plain-5 c = search needs
-
 write-plain-requires : tie.Need-write-plain-requires
-write-plain-requires c κs = λ h. member-small 11 11 _ (omega arith) (c .before .before .before .before .before .before .before .before .before .before .before .member-in .ensures) (both-true _ _ (sym (c .before .before .before .before .before .before .before .both3 .ensures) ∙ h) .0)
+write-plain-requires c κs = λ h. member-small 12 12 _ (omega arith) (c .before .before .before .before .before .before .before .before .before .before .member-in .ensures) (both-true _ _ (sym (c .before .before .before .before .before .before .both2 .ensures) ∙ h) .0)
 
 same-length : tie.Need-same-length
 same-length c = search needs
 
 returns : tie.Need-returns
 unfolding encode around cover
-returns c = same-outcome (c .before .before .write-plain .ensures) _ _ _ refl (both-same (c .before .before .before .before .before .before .before .before .before .before .both3 .ensures) (c .before .before .before .before .before .before .before .before .before .before .before .before .before .before .member-in .ensures) (both-same (c .before .before .before .before .before .before .before .before .before .before .before .both2 .ensures) (c .before .before .before .before .before .before .before .before .before .before .before .before .before .moment-fits .ensures) (c .before .before .before .before .before .before .before .before .before .before .before .before .both .ensures))) (λ h. rw (c .before .before .before .before .before .before .before .before .before .timed .ensures) (same-wrapped _ _ _ refl))
+returns c = same-outcome (c .before .before .write-plain .ensures) _ _ _ refl (both-same (c .before .before .before .before .before .before .before .before .before .both2 .ensures) (c .before .before .before .before .before .before .before .before .before .before .before .before .before .member-in .ensures) (both-same (c .before .before .before .before .before .before .before .before .before .before .both .ensures) (c .before .before .before .before .before .before .before .before .before .before .before .before .moment-fits .ensures) (c .before .before .before .before .before .before .before .before .before .before .before .sized .ensures))) (λ h. rw (c .before .before .before .before .before .before .before .before .timed .ensures) (same-wrapped _ _ _ refl))
 
-pub write-window-size-spec : {M : Type 1} → statement M
-write-window-size-spec =
+pub write-suspend-spec : {M : Type 1} → statement M
+write-suspend-spec =
     tie.close
     (tie.spec
     member-in-requires
     moment-fits-requires
+    sized-requires
     both-requires
     both-requires-2
-    both-requires-3
     timed-requires
     slice-aggregate-write-plain
     slice-aggregate-write-plain-2
     slice-aggregate-write-plain-3
     slice-aggregate-write-plain-4
-    slice-aggregate-write-plain-5
     write-plain-requires
     same-length
     returns)

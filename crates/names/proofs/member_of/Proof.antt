@@ -1,9 +1,9 @@
 use Rattle.fields.specs.Fields.{memberFrom}
-use Rattle.words.specs.Words.{memberOf}
+use Rattle.names.specs.Names.{memberOf}
 use mathlib.Core.Path.{sym, _∙_}
 use borrow.Author.Needs.{needs}
-use Rattle.words.proofs.member_of.Statement.{statement}
-use Rattle.words.proofs.member_of.Tie as tie
+use Rattle.names.proofs.member_of.Statement.{statement}
+use Rattle.names.proofs.member_of.Tie as tie
 
 last-in-requires : tie.Need-last-in-requires
 last-in-requires c κs = search needs

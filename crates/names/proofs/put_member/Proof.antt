@@ -1,9 +1,9 @@
 use borrow.Author.Tests.{ne-eqb}
-use Rattle.words.specs.Words.{memberName}
+use Rattle.names.specs.Names.{memberName}
 use native.Mathlib.Omega.{arith}
 use borrow.Author.Needs.{needs}
-use Rattle.words.proofs.put_member.Statement.{statement}
-use Rattle.words.proofs.put_member.Tie as tie
+use Rattle.names.proofs.put_member.Statement.{statement}
+use Rattle.names.proofs.put_member.Tie as tie
 
 slice-aggregate-put-raw : tie.Need-slice-aggregate-put-raw
 slice-aggregate-put-raw c = search needs

@@ -8,8 +8,8 @@ use Rattle.laws.proofs.Order.{both-true}
 use native.Mathlib.Omega.{arith}
 use mathlib.Core.Path.{refl, sym, _∙_}
 use borrow.Author.Needs.{needs}
-use Rattle.client_writer.proofs.write_exit.Statement.{statement}
-use Rattle.client_writer.proofs.write_exit.Tie as tie
+use Rattle.record_writer.proofs.write_exit.Statement.{statement}
+use Rattle.record_writer.proofs.write_exit.Tie as tie
 
 sized-requires : tie.Need-sized-requires
 sized-requires c κs = search needs

@@ -1,13 +1,17 @@
 use Rattle.layout.proofs.Outcomes.{same-outcome, same-wrapped}
+use Rattle.fits.specs.Fits.{endsFit}
 use Rattle.pieces.specs.Put.{cover, around}
-use Rattle.written.specs.Draft.{cutAt, badEnds}
-use Rattle.written.specs.Pieces.{encode, elements}
+use Rattle.written.specs.Pieces.{encode, packed}
 use mathlib.Core.List.{append-nil}
+use borrow.Author.Tests.{not-true}
 use native.Mathlib.Omega.{arith}
-use mathlib.Core.Path.{refl}
+use mathlib.Core.Path.{refl, sym, _∙_}
 use borrow.Author.Needs.{needs}
-use Rattle.entry_writer.proofs.write_number_list.Statement.{statement}
-use Rattle.entry_writer.proofs.write_number_list.Tie as tie
+use Rattle.list_writer.proofs.write_string_list.Statement.{statement}
+use Rattle.list_writer.proofs.write_string_list.Tie as tie
+
+ends-fit-requires : tie.Need-ends-fit-requires
+ends-fit-requires c κs = search needs
 
 listed-requires : tie.Need-listed-requires
 listed-requires c κs = search needs
@@ -30,24 +34,21 @@ slice-aggregate-write-message-5 c = search needs
 slice-aggregate-write-message-6 : tie.Need-slice-aggregate-write-message-6
 slice-aggregate-write-message-6 c = search needs
 
-slice-aggregate-write-message-7 : tie.Need-slice-aggregate-write-message-7
-slice-aggregate-write-message-7 c = search needs
-
 write-message-requires : tie.Need-write-message-requires
-unfolding badEnds
-write-message-requires c κs = (λ h. omega arith, λ h. refl)
+write-message-requires c κs = (λ h. omega arith, λ h. not-true _ (sym (c .before .before .before .before .before .before .before .before .ends-fit .ensures) ∙ h))
 
 same-length : tie.Need-same-length
 same-length c = search needs
 
 returns : tie.Need-returns
-unfolding encode around cover elements cutAt
-returns c = same-outcome (c .before .before .write-message .ensures) _ _ _ refl refl (λ h. rw (c .before .before .before .before .before .before .before .before .before .before .before .listed .ensures) (same-wrapped _ _ _ (append-nil _)))
+unfolding encode around cover packed endsFit
+returns c = same-outcome (c .before .before .write-message .ensures) _ _ _ refl (c .before .before .before .before .before .before .before .before .before .before .before .ends-fit .ensures) (λ h. rw (c .before .before .before .before .before .before .before .before .before .before .listed .ensures) (same-wrapped _ _ _ (append-nil _)))
 
-pub write-number-list-spec : {M : Type 1} → statement M
-write-number-list-spec =
+pub write-string-list-spec : {M : Type 1} → statement M
+write-string-list-spec =
     tie.close
     (tie.spec
+    ends-fit-requires
     listed-requires
     slice-aggregate-write-message
     slice-aggregate-write-message-2
@@ -55,7 +56,6 @@ write-number-list-spec =
     slice-aggregate-write-message-4
     slice-aggregate-write-message-5
     slice-aggregate-write-message-6
-    slice-aggregate-write-message-7
     write-message-requires
     same-length
     returns)

@@ -1,8 +1,8 @@
-use Rattle.words.specs.Words.{stateName}
+use Rattle.names.specs.Names.{stateName}
 use native.Mathlib.Omega.{arith}
 use borrow.Author.Needs.{needs}
-use Rattle.words.proofs.put_state.Statement.{statement}
-use Rattle.words.proofs.put_state.Tie as tie
+use Rattle.names.proofs.put_state.Statement.{statement}
+use Rattle.names.proofs.put_state.Tie as tie
 
 enum-told : tie.Need-enum-told
 enum-told c = search needs
