@@ -16,8 +16,7 @@ use Rattle.range.specs.Range as g
 use Rattle.limits.specs.Limits.{upTo, sized, dateFits, momentFits}
 use Rattle.range.specs.Range.{ioFits, windowFits, suspendFits}
 use Rattle.record.specs.Digits.{digits, value}
-use Rattle.record.specs.Record as k
-use Rattle.record.specs.Record.{second, Record, windowBytes, exitBytes, isTimed, timedFits}
+use Rattle.record.specs.Record.{second, Record, windowBytes, exitBytes, isTimed, timedFits, exitDataFits}
 use Rattle.record.specs.File.{limit, timeOf, mayFollow, mayEnd}
 use Rattle.record.proofs.Numbers.{length-digits, value-digits}
 use Rattle.record.proofs.Reading.{InRange}
@@ -148,7 +147,7 @@ suspend-in s e = both-true (momentFits (s .delay)) (sized 1 127 (s .contents)) e
 pub record Stored (r : Record) : Type 0 where
   pub from : 6 ≤ r .kind
   pub to : r .kind ≤ 12
-  pub fits : timedFits (r .kind) (r .contents) ≡ true
+  pub fits : timedFits (r .kind) (length (r .contents)) ≡ true
   pub most : r .delay ≤ limit
 
 pub stored : (t : TimedRecord) → inRange t ≡ true → Stored (recordOf t)
@@ -179,7 +178,7 @@ pub time-is : (t : TimedRecord) → StorableTimed t → time t ≡ recordOf t .d
 unfolding timeOf
 time-is t v = rw (timed-kind (recordOf t) (stored t (v .in-range)))
 
-pub may-follow : (sum : ℕ) (t : TimedRecord) → StorableTimed t → sum + recordOf t .delay ≤ limit → mayFollow sum (recordOf t) ≡ true
+pub may-follow : (sum : ℕ) (t : TimedRecord) → StorableTimed t → sum + recordOf t .delay ≤ limit → mayFollow sum (recordOf t .kind) (recordOf t .delay) (length (recordOf t .contents)) ≡ true
 unfolding mayFollow
 may-follow sum t v h =
     let s = stored t (v .in-range) in
@@ -204,7 +203,7 @@ low-bits true n h = omega arith
 low-bits false n h = omega arith
 
 pub may-end : (e : Exit) → g.exitFits e ≡ true → mayEnd (exitRecord e) [] ≡ true
-unfolding mayEnd exitRecord exitBytes k.exitFits
+unfolding mayEnd exitRecord exitBytes exitDataFits
 may-end e h =
     let l : length (e .signal) ≤ 127 = exit-in e h .2 in
     let a = length-append (e .signal) (e .error) in
