@@ -23,6 +23,7 @@ use Rattle.record.proofs.Restarts.{keep-ranged, keep-kind, keep-total, keep-are
 use Rattle.session.specs.Step.{grown}
 use Rattle.session.specs.declared.State.the-variants.{Logging}
 use Rattle.session.specs.declared.Mark.{Mark}
+use Rattle.session.specs.declared.Session.{Session}
 use Rattle.session.specs.declared.Mark.the-variants as mark
 use Rattle.delivery.specs.Recording.{All, acceptRecord}
 use Rattle.delivery.proofs.Files.{all-append}
@@ -48,6 +49,25 @@ ranged (r ∷ rs) h = one-more (in-range r (h .0)) (ranged rs (h .1))
 all-fit : (rs : List Record) → Ranged rs → All Fits rs
 all-fit [] no-records = tt
 all-fit (r ∷ rs) (one-more h k) = (fits r h, all-fit rs k)
+
+-- ---- where nothing has changed
+
+-- the same numbers, the same used bytes and the same restart point
+pub still-agrees : (h : Host) (se : Session) (area : Bytes) (T : Option ℕ) → se .used ≡ h .session .used → se .total ≡ h .session .total → se .low ≡ h .session .low
+    → se .mark ≡ h .session .mark → take (h .used) area ≡ take (h .used) (h .area) → T ≡ h .restartPoint → Agrees h
+    → Agrees (record { session = se; area = area; used = h .used; restartPoint = T })
+still-agrees h se area T used total low mark same point a = record {
+  records = a .records;
+  are-in-range = a .are-in-range;
+  is-unfinished = a .is-unfinished;
+  used-bytes = same ∙ a .used-bytes;
+  used-length = a .used-length;
+  carries-used = used ∙ a .carries-used;
+  carries-total = total ∙ a .carries-total;
+  carries-low = low ∙ a .carries-low;
+  carries-point = mark ∙ a .carries-point ∙ ap markOf (sym point);
+  at-point = rw point (a .at-point);
+}
 
 -- ---- restart points
 

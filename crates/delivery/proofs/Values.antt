@@ -19,6 +19,7 @@ use Rattle.record.specs.Digits.{digits, value}
 use Rattle.record.specs.Record.{second, Record, windowBytes, exitBytes, isTimed, timedFits, exitDataFits}
 use Rattle.record.specs.File.{limit, timeOf, mayFollow, mayEnd}
 use Rattle.record.proofs.Numbers.{length-digits, value-digits}
+use Rattle.record.proofs.Records.{length-window}
 use Rattle.record.proofs.Reading.{InRange}
 use Rattle.session.specs.Step.{natural, moment}
 use Rattle.delivery.specs.Recording.{TimedRecord, io, window, suspend, Recording, acceptRecord, recordOf, exitRecord, time, inRange, All, Valid}
@@ -98,10 +99,6 @@ unfolding windowBytes
 window-same a b c d p q r s e =
     let x = append-same (digits 2 a) (digits 2 b) (digits 2 c) (digits 2 d) (length-digits 2 a ∙ sym (length-digits 2 c)) e in
     (two-digits a c p r (x .0), two-digits b d q s (x .1))
-
-pub length-window : (a b : ℕ) → length (windowBytes a b) ≡ 4
-unfolding windowBytes
-length-window a b = omega (arith, length-append (digits 2 a) (digits 2 b), length-digits 2 a, length-digits 2 b)
 
 flags : (a b : Bool) (n m : ℕ) → n ≤ 127 → m ≤ 127 → pick a 128 0 + n ≡ pick b 128 0 + m → (a ≡ b) × (n ≡ m)
 flags true true n m h k e = (refl, omega arith)
