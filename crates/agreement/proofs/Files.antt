@@ -7,15 +7,15 @@ use mathlib.Core.List.{List, [], _∷_}
 use mathlib.Core.Option.{Option, none, some}
 use lib.ListN.{length, take, length-append}
 use lib.Seq.{length-take-le}
-use lib.Dec.{leb, ltb, eqb}
-use borrow.Author.Tests.{le-leb, lt-ltb, leb-true, ltb-true, eqb-true}
-use Rattle.laws.specs.Base.{pick, both, splice}
-use Rattle.laws.proofs.Order.{both-true}
+use lib.Dec.{eqb}
+use borrow.Author.Tests.{le-leb, lt-ltb, eqb-true}
+use Rattle.laws.specs.Base.{pick, splice}
 use Rattle.message.specs.Message.{Bytes}
 use Rattle.record.specs.Record.{Record, recordBytes, isTimed}
 use Rattle.record.specs.File as file
 use Rattle.record.specs.File.{recordsOf, fileBytes, limit, timeOf, total, lowFrom, lowTotal, unfinished, mayFollow, restKind, recordsKind, meets, keep}
-use Rattle.store.specs.Store.{inRange}
+use Rattle.store.specs.Store.{fitsHeader}
+use Rattle.store.proofs.Stores.{header-fits}
 use Rattle.record.proofs.Times.{accept-cons}
 use Rattle.record.proofs.Reading.{InRange, Ranged, no-records, one-more, file-of-records}
 use Rattle.record.proofs.Appends.{snoc, file-snoc, file-stored, kind-timed, total-timed, low-timed}
@@ -23,6 +23,7 @@ use Rattle.record.proofs.Restarts.{keep-ranged, keep-kind, keep-total, keep-are
 use Rattle.session.specs.Step.{grown}
 use Rattle.session.specs.declared.State.the-variants.{Logging}
 use Rattle.session.specs.declared.Mark.{Mark}
+use Rattle.session.specs.declared.Session.{Session}
 use Rattle.session.specs.declared.Mark.the-variants as mark
 use Rattle.delivery.specs.Recording.{All, acceptRecord}
 use Rattle.delivery.proofs.Files.{all-append}
@@ -32,18 +33,14 @@ use Rattle.agreement.specs.Agreement.{AreBytes, markOf, Agrees}
 -- ---- ranges, as a test and as facts
 
 abbrev pub Fits : Record → Type 0
-Fits r = inRange r ≡ true
+Fits r = fitsHeader (r .kind) (r .delay) (length (r .contents)) ≡ true
 
 pub fits : (r : Record) → InRange r → Fits r
-unfolding inRange
+unfolding fitsHeader
 fits r h = rw (lt-ltb (r .kind) 16 (h .kind-fits), le-leb (r .delay) limit (h .delay-fits), le-leb (length (r .contents)) 2097152 (h .contents-fit))
 
 in-range : (r : Record) → Fits r → InRange r
-unfolding inRange
-in-range r e =
-    let p = both-true (ltb (r .kind) 16) (both (leb (r .delay) limit) (leb (length (r .contents)) 2097152)) e in
-    let q = both-true (leb (r .delay) limit) (leb (length (r .contents)) 2097152) (p .1) in
-    record { kind-fits = ltb-true (r .kind) 16 (p .0); delay-fits = leb-true (r .delay) limit (q .0); contents-fit = leb-true (length (r .contents)) 2097152 (q .1) }
+in-range r e = let p = header-fits (r .kind) (r .delay) (length (r .contents)) e in record { kind-fits = p .0; delay-fits = p .1; contents-fit = p .2 }
 
 pub ranged : (rs : List Record) → All Fits rs → Ranged rs
 ranged [] h = no-records
@@ -52,6 +49,25 @@ ranged (r ∷ rs) h = one-more (in-range r (h .0)) (ranged rs (h .1))
 all-fit : (rs : List Record) → Ranged rs → All Fits rs
 all-fit [] no-records = tt
 all-fit (r ∷ rs) (one-more h k) = (fits r h, all-fit rs k)
+
+-- ---- where nothing has changed
+
+-- the same numbers, the same used bytes and the same restart point
+pub still-agrees : (h : Host) (se : Session) (area : Bytes) (T : Option ℕ) → se .used ≡ h .session .used → se .total ≡ h .session .total → se .low ≡ h .session .low
+    → se .mark ≡ h .session .mark → take (h .used) area ≡ take (h .used) (h .area) → T ≡ h .restartPoint → Agrees h
+    → Agrees (record { session = se; area = area; used = h .used; restartPoint = T })
+still-agrees h se area T used total low mark same point a = record {
+  records = a .records;
+  are-in-range = a .are-in-range;
+  is-unfinished = a .is-unfinished;
+  used-bytes = same ∙ a .used-bytes;
+  used-length = a .used-length;
+  carries-used = used ∙ a .carries-used;
+  carries-total = total ∙ a .carries-total;
+  carries-low = low ∙ a .carries-low;
+  carries-point = mark ∙ a .carries-point ∙ ap markOf (sym point);
+  at-point = rw point (a .at-point);
+}
 
 -- ---- restart points
 
@@ -98,7 +114,7 @@ file-more h a r within =
     ap (λ (k : ℕ). take (k + length (recordBytes r)) (splice (h .area) k (recordBytes r))) (a .used-length)
     ∙ file-stored (h .area) (a .records) r (ap (λ (k : ℕ). take k (h .area)) (sym (a .used-length)) ∙ a .used-bytes) (omega (arith, a .used-length))
 
-module _ (h : Host) (a : Agrees h) (r : Record) (in-it : InRange r) (follows : mayFollow (total (a .records)) r ≡ true) where
+module _ (h : Host) (a : Agrees h) (r : Record) (in-it : InRange r) (follows : mayFollow (total (a .records)) (r .kind) (r .delay) (length (r .contents)) ≡ true) where
   at-point-later : (b : Bool) → eqb (r .delay) 0 ≡ b → (t : ℕ) → pick b (h .restartPoint) none ≡ some t → total (snoc (a .records) r) ≡ t
   at-point-later true e t p = omega (arith, total-timed (a .records) r follows, a .at-point t p, eqb-true (r .delay) 0 e)
   at-point-later false e t p = absurd (not-none t p)

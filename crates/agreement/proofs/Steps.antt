@@ -27,7 +27,7 @@ use Rattle.delivery.proofs.Values.{StorableTimed, timed-ranged, may-follow}
 use Rattle.agreement.specs.Calls.{Call, message, tick, behind, Host, untilPositive, afterTaken, afterMessage, left, over, withBehind, after}
 use Rattle.agreement.specs.Agreement.{Agrees, Unopened, InState, Stands}
 use Rattle.agreement.proofs.Members.{Known, ReadKnown, message-known}
-use Rattle.agreement.proofs.Files.{accept-agrees, stored-agrees, restart-agrees}
+use Rattle.agreement.proofs.Files.{still-agrees, accept-agrees, stored-agrees, restart-agrees}
 
 -- ---- lengths and room
 
@@ -161,18 +161,7 @@ module _ (h : Host) where
   same-state : (st : State) (T : Option ℕ) → T ≡ h .restartPoint → InState st h → InState st (left (taken se (h .area) (h .used) st) T)
   same-state New T e u = unopened New T e u
   same-state Greeted T e u = unopened Greeted T e u
-  same-state Logging T e a = record {
-    records = a .records;
-    are-in-range = a .are-in-range;
-    is-unfinished = a .is-unfinished;
-    used-bytes = a .used-bytes;
-    used-length = a .used-length;
-    carries-used = a .carries-used;
-    carries-total = a .carries-total;
-    carries-low = a .carries-low;
-    carries-point = rw e (a .carries-point);
-    at-point = rw e (a .at-point);
-  }
+  same-state Logging T e a = still-agrees h _ (h .area) T refl refl refl refl refl e a
   same-state EventsOnly T e u = tt
   same-state Closed T e u = tt
 
@@ -262,18 +251,7 @@ module _ (h : Host) (area : Bytes) (same : take (h .used) area ≡ take (h .used
   over-stands : (st : State) → InState st h → InState st (over h area)
   over-stands New u = unopened-over u
   over-stands Greeted u = unopened-over u
-  over-stands Logging a = record {
-    records = a .records;
-    are-in-range = a .are-in-range;
-    is-unfinished = a .is-unfinished;
-    used-bytes = same ∙ a .used-bytes;
-    used-length = a .used-length;
-    carries-used = a .carries-used;
-    carries-total = a .carries-total;
-    carries-low = a .carries-low;
-    carries-point = a .carries-point;
-    at-point = a .at-point;
-  }
+  over-stands Logging a = still-agrees h (h .session) area (h .restartPoint) refl refl refl refl same refl a
   over-stands EventsOnly u = tt
   over-stands Closed u = tt
 

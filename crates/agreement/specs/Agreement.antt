@@ -12,7 +12,7 @@ use Rattle.wire.specs.Read.{value, clientMessage}
 use Rattle.record.specs.Record.{Record}
 use Rattle.record.specs.File as file
 use Rattle.record.specs.File.{recordsOf, fileBytes, total, lowTotal, unfinished, finished, recordsKind}
-use Rattle.store.specs.Store.{inRange}
+use Rattle.store.specs.Store.{fitsHeader}
 use Rattle.session.specs.Step as session
 use Rattle.session.specs.Step.{Outcome}
 use Rattle.session.specs.Examples.{accept, ttyout}
@@ -38,7 +38,7 @@ markOf (some t) = mark.At t
 pub record Agrees (h : Host) : Type 0 where
   pub records : List Record
   -- "A file is valid when it reads so to its end, with all ranges above kept"; "An unfinished valid file has no exit"
-  pub are-in-range : All (λ (r : Record). inRange r ≡ true) records
+  pub are-in-range : All (λ (r : Record). fitsHeader (r .kind) (r .delay) (length (r .contents)) ≡ true) records
   pub is-unfinished : recordsKind records ≡ unfinished
   -- its bytes, and how many
   pub used-bytes : take (h .used) (h .area) ≡ fileBytes records

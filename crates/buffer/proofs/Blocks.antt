@@ -13,7 +13,7 @@ use Rattle.laws.proofs.Order.{lt-or-le}
 use Rattle.laws.proofs.Splice.{splice-next}
 use borrow.Author.Tests.{le-leb, lt-leb}
 use Rattle.buffer.specs.Copy.{fits, copied}
-use Rattle.block.specs.Block.{stored}
+use Rattle.block.specs.Block.{blockStored}
 
 -- a whole copy is a splice
 pub paste-splice : (d : List ℕ) (at : ℕ) (s : List ℕ) (n : ℕ) → n ≡ length s → paste d at s n ≡ splice d at s
@@ -52,7 +52,7 @@ over d at s m i h g l k =
 
 -- a block of 1 + n bytes from i on
 block : (d : List ℕ) (at : ℕ) (s : List ℕ) (m i n : ℕ) → i ≤ m → i + n < length s → m ≤ length s → at + length s ≤ length d
-    → stored (paste d at s m) (at + i) s i n ≡ paste d at s (m + (suc (i + n) - m))
+    → blockStored (paste d at s m) (at + i) s i n ≡ paste d at s (m + (suc (i + n) - m))
 block d at s m i zero h g l k =
     let e : i + 0 ≡ i = omega arith in
     over d at s m i h (omega arith) l k ∙ ap (λ (x : ℕ). paste d at s (m + (suc x - m))) (sym e)
@@ -66,49 +66,36 @@ block d at s m i (suc n) h g l k =
 
 -- the same of a list that is such a copy, and for the place to which bytes stand afterwards
 pub block-to : (d x : List ℕ) (at : ℕ) (s : List ℕ) (m i n m' : ℕ) → x ≡ paste d at s m → i ≤ m → i + n < length s → m ≤ length s → at + length s ≤ length d
-    → m' ≡ m + (suc (i + n) - m) → stored x (at + i) s i n ≡ paste d at s m'
+    → m' ≡ m + (suc (i + n) - m) → blockStored x (at + i) s i n ≡ paste d at s m'
 block-to d x at s m i n m' e h g l k f =
-    ap (λ (y : List ℕ). stored y (at + i) s i n) e ∙ block d at s m i n h g l k ∙ ap (paste d at s) (sym f)
+    ap (λ (y : List ℕ). blockStored y (at + i) s i n) e ∙ block d at s m i n h g l k ∙ ap (paste d at s) (sym f)
 
-first : (d : List ℕ) (at : ℕ) (s : List ℕ) (n : ℕ) → n < length s → at + length s ≤ length d → stored d at s 0 n ≡ paste d at s (suc n)
+first : (d : List ℕ) (at : ℕ) (s : List ℕ) (n : ℕ) → n < length s → at + length s ≤ length d → blockStored d at s 0 n ≡ paste d at s (suc n)
 first d at s n g k =
     let e : at ≡ at + 0 = omega arith in
-    ap (λ (o : ℕ). stored d o s 0 n) e ∙ block-to d d at s 0 0 n (suc n) (paste-zero d at s) (omega arith) (omega arith) (omega arith) k (omega arith)
+    ap (λ (o : ℕ). blockStored d o s 0 n) e ∙ block-to d d at s 0 0 n (suc n) (paste-zero d at s) (omega arith) (omega arith) (omega arith) k (omega arith)
 
 -- where m bytes stand, the last 1 + n laid over their end make them all
 pub laid-over : (d x : List ℕ) (at : ℕ) (s : List ℕ) (m n : ℕ) → x ≡ paste d at s m → n < length s → m ≤ length s → length s ≤ m + suc n → at + length s ≤ length d
-    → stored x (at + (length s - suc n)) s (length s - suc n) n ≡ splice d at s
+    → blockStored x (at + (length s - suc n)) s (length s - suc n) n ≡ splice d at s
 laid-over d x at s m n e g l h k =
     block-to d x at s m (length s - suc n) n (length s) e (omega arith) (omega arith) l k (omega arith) ∙ paste-splice d at s (length s) refl
 
 -- so do the last 1 + n over the first 1 + n, of at most twice as many
 pub two-ends : (d x y : List ℕ) (at : ℕ) (s : List ℕ) (n : ℕ) → n < length s → length s ≤ suc n + suc n → at + length s ≤ length d
-    → x ≡ stored d at s 0 n → y ≡ stored x (at + (length s - suc n)) s (length s - suc n) n → y ≡ splice d at s
+    → x ≡ blockStored d at s 0 n → y ≡ blockStored x (at + (length s - suc n)) s (length s - suc n) n → y ≡ splice d at s
 two-ends d x y at s n g h k p q = q ∙ laid-over d x at s (suc n) n (p ∙ first d at s n g k) g (omega arith) h k
 
 -- and of more than 64 and at most 128 bytes the first 64 and the last 64, by 32
 pub four-ends : (d x y z w : List ℕ) (at : ℕ) (s : List ℕ) → 64 < length s → length s ≤ 128 → at + length s ≤ length d
-    → x ≡ stored d at s 0 31 → y ≡ stored x (at + 32) s 32 31 → z ≡ stored y (at + (length s - 64)) s (length s - 64) 31
-    → w ≡ stored z (at + (length s - 32)) s (length s - 32) 31 → w ≡ splice d at s
+    → x ≡ blockStored d at s 0 31 → y ≡ blockStored x (at + 32) s 32 31 → z ≡ blockStored y (at + (length s - 64)) s (length s - 64) 31
+    → w ≡ blockStored z (at + (length s - 32)) s (length s - 32) 31 → w ≡ splice d at s
 four-ends d x y z w at s g h k p q r t =
     let m : ℕ = 64 + (suc (length s - 64 + 31) - 64) in
     let a : x ≡ paste d at s 32 = p ∙ first d at s 31 (omega arith) k in
     let b : y ≡ paste d at s 64 = q ∙ block-to d x at s 32 32 31 64 a (omega arith) (omega arith) (omega arith) k (omega arith) in
     let c : z ≡ paste d at s m = r ∙ block-to d y at s 64 (length s - 64) 31 m b (omega arith) (omega arith) (omega arith) k refl in
     t ∙ laid-over d z at s m 31 c (omega arith) (omega arith) (omega arith) k
-
--- a block behind a block is one block
-pub stored-on : (area : List ℕ) (o : ℕ) (s : List ℕ) (j n k : ℕ) → stored (stored area o s j n) (o + suc n) s (j + suc n) k ≡ stored area o s j (suc n + k)
-stored-on area o s j n zero = let e : suc n ≡ suc n + 0 = omega arith in ap (stored area o s j) e
-stored-on area o s j n (suc k) =
-    let m : ℕ = suc n + k in
-    let p : o + suc n + suc k ≡ o + suc m = omega arith in
-    let q : j + suc n + suc k ≡ j + suc m = omega arith in
-    let e : suc m ≡ suc n + suc k = omega arith in
-    ap (λ (x : List ℕ). set x (o + suc n + suc k) (getD s (j + suc n + suc k) 0)) (stored-on area o s j n k)
-    ∙ ap (λ (i : ℕ). set (stored area o s j m) i (getD s (j + suc n + suc k) 0)) p
-    ∙ ap (λ (i : ℕ). set (stored area o s j m) (o + suc m) (getD s i 0)) q
-    ∙ ap (stored area o s j) e
 
 -- ---- by pages
 

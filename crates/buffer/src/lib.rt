@@ -4,7 +4,7 @@ ghost use mathlib.Core.Path.{_≡_};
 ghost use Prim.Native.Nat.{_+_, _≤_};
 ghost use lib.ListN.{length, take};
 ghost use Rattle.laws.specs.Base.{splice};
-ghost use Rattle.block.specs.Block.{stored};
+ghost use Rattle.block.specs.Block.{blockStored};
 ghost use Rattle.buffer.specs.Copy.{fits, copied};
 
 // Bytes one after the other.
@@ -22,7 +22,7 @@ fn copy_few(area: &mut [u8], at: usize, bytes: &[u8])
 // 32 bytes, as two blocks.
 fn copy_32(area: &mut [u8], o: usize, bytes: &[u8], j: usize)
     requires { ⌜ (o + 32 ≤ length (now area)) × (j + 32 ≤ length (now bytes)) ⌝ }
-    ensures { λ _. ⌜ now (area .exit) ≡ stored (now (area .entry)) o (now (bytes .entry)) j 31 ⌝ }
+    ensures { λ _. ⌜ now (area .exit) ≡ blockStored (now (area .entry)) o (now (bytes .entry)) j 31 ⌝ }
 {
     copy_block(area, o, bytes, j);
     copy_block(area, o + 16, bytes, j + 16);

@@ -103,22 +103,22 @@ MarkOk R n ys total low (mark.At T) = Good R n T × HeadLater ys
 abbrev pub Lead : State → List Sent → List Sent → Type 0
 Lead st ms l = ((st ≡ New) × (ms ≡ hello ∷ l)) ⊎ ((mayOpen st ≡ true) × (ms ≡ l))
 
-pub record Logs (R : Recording) (ms : List Sent) (d : Desk) : Type 0 where
+pub record Logs (R : Recording) (ms : List Sent) (se : Session) (used n : ℕ) : Type 0 where
   pub stored-ones : List TimedRecord
   pub coming : List TimedRecord
   pub split : stored-ones ++ coming ≡ R .timed
   pub coming-is : ms ≡ rest R coming
-  pub state-is : d .session .state ≡ Logging
-  pub n-is : d .n ≡ suc (length stored-ones)
-  pub used-same : d .used ≡ d .session .used
-  pub total-is : d .session .total ≡ totalOf stored-ones
-  pub mark-ok : MarkOk R (d .n) coming (d .session .total) (d .session .low) (d .session .mark)
+  pub state-is : se .state ≡ Logging
+  pub n-is : n ≡ suc (length stored-ones)
+  pub used-same : used ≡ se .used
+  pub total-is : se .total ≡ totalOf stored-ones
+  pub mark-ok : MarkOk R n coming (se .total) (se .low) (se .mark)
 
 -- p is the sender's latest point, ms the messages that have yet to come whole
 pub data Stage (R : Recording) (p : Option ℕ) (ms : List Sent) (d : Desk) : Type 0 where
   beginning : Lead (d .session .state) ms (accept (R .accept) ∷ rest R (R .timed)) → d .n ≡ 0 → Stage R p ms d
   resuming : (T : ℕ) → Lead (d .session .state) ms (restart T ∷ rest R (later 0 T (R .timed))) → p ≡ some T → All Quiet (d .out) → Stage R p ms d
-  logging : Logs R ms d → Stage R p ms d
+  logging : Logs R ms (d .session) (d .used) (d .n) → Stage R p ms d
   over : d .session .state ≡ Closed → d .n ≡ length (records R) → Stage R p ms d
 
 abbrev pub RestartOk : WholeRestart → Type 0
@@ -292,7 +292,7 @@ module _ (R : Recording) (storable : Storable R) (c : ℕ) (fits : length (fileB
         }))
 
     -- the timed record that comes next
-    pub timed-to : (l : Logs R before d) (t : TimedRecord) (ys : List TimedRecord) → Says s (timed t) → l .coming ≡ t ∷ ys → ms ≡ rest R ys → To
+    pub timed-to : (l : Logs R before (d .session) (d .used) (d .n)) (t : TimedRecord) (ys : List TimedRecord) → Says s (timed t) → l .coming ≡ t ∷ ys → ms ≡ rest R ys → To
     unfolding total
     timed-to l t ys y e m =
         let xs : List TimedRecord = l .stored-ones in
@@ -320,7 +320,7 @@ module _ (R : Recording) (storable : Storable R) (c : ℕ) (fits : length (fileB
         }))
 
     -- the exit
-    pub exit-to : (l : Logs R before d) → Says s (exit (R .exit)) → l .coming ≡ [] → To
+    pub exit-to : (l : Logs R before (d .session) (d .used) (d .n)) → Says s (exit (R .exit)) → l .coming ≡ [] → To
     unfolding countedMember notedMember isPoint
     exit-to l y e =
         let r : Record = exitRecord (R .exit) in
@@ -471,7 +471,7 @@ module _ (R : Recording) (storable : Storable R) (c : ℕ) (fits : length (fileB
   unfolding rest
   handed p s m ms d y i = go (i .stage)
     where
-      logged : (l : Logs R (m ∷ ms) d) (ts : List TimedRecord) → l .coming ≡ ts → m ∷ ms ≡ rest R ts → Inv R c p ms (hand R s d)
+      logged : (l : Logs R (m ∷ ms) (d .session) (d .used) (d .n)) (ts : List TimedRecord) → l .coming ≡ ts → m ∷ ms ≡ rest R ts → Inv R c p ms (hand R s d)
       logged l [] e k = exit-to p d s ms (m ∷ ms) i l (rw (head-eq-of-cons-eq k) at y) e
       logged l (t ∷ ts) e k = timed-to p d s ms (m ∷ ms) i l t ts (rw (head-eq-of-cons-eq k) at y) e (tail-eq-of-cons-eq k)
 

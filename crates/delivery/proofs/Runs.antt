@@ -151,17 +151,7 @@ module _ (R : Recording) (blank : ℕ → Bytes) where
         out-ok = all-append (AnswerOk R (d .n)) (d .out) (tickAnswers (session.tick (d .session))) (i .out-ok)
             (rw (ap (λ (x : State). pointIn x point) (l .state-is)) (mark-point (d .n) (l .coming) (d .session .total) (d .session .low) (d .session .mark) (l .mark-ok)));
         point-ok = i .point-ok;
-        stage = logging (record {
-          stored-ones = l .stored-ones;
-          coming = l .coming;
-          split = l .split;
-          coming-is = l .coming-is;
-          state-is = l .state-is;
-          n-is = l .n-is;
-          used-same = l .used-same;
-          total-is = l .total-is;
-          mark-ok = l .mark-ok;
-        });
+        stage = logging l;
       }
 
   tick-ok : (w : World) (c : Connection) → WorldOk w → Link w c → WorldOk (inside R w c tick)
@@ -255,17 +245,7 @@ module _ (R : Recording) (blank : ℕ → Bytes) where
       go (beginning l z) = beginning l z
       go (resuming T l h o) = let z = rw e at o in resuming T l (same (z .0) ∙ h) (z .1)
       go (over h z) = over h z
-      go (logging l) = logging (record {
-        stored-ones = l .stored-ones;
-        coming = l .coming;
-        split = l .split;
-        coming-is = l .coming-is;
-        state-is = l .state-is;
-        n-is = l .n-is;
-        used-same = l .used-same;
-        total-is = l .total-is;
-        mark-ok = l .mark-ok;
-      })
+      go (logging l) = logging l
 
   point-place : (book : ℕ → ℕ) (a : ℕ) (q : Option ℕ) → PointOk R (book a) q → LatestOk R book (placed a q)
   point-place book a none g = tt

@@ -31,7 +31,8 @@ use Rattle.delivery.specs.Recording.{TimedRecord, io, window, suspend, R
 use Rattle.delivery.specs.Sender as sent
 use Rattle.delivery.specs.Sender.{rest, messages, withHello, Reads, received, Says, Lines}
 use Rattle.delivery.specs.Progress.{Sendable}
-use Rattle.delivery.proofs.Values.{length-window, Small, StorableTimed, Storable}
+use Rattle.record.proofs.Records.{length-window}
+use Rattle.delivery.proofs.Values.{Small, StorableTimed, Storable}
 
 -- ---- the items of some bytes take no more than these
 

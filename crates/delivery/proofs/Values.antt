@@ -16,10 +16,10 @@ use Rattle.range.specs.Range as g
 use Rattle.limits.specs.Limits.{upTo, sized, dateFits, momentFits}
 use Rattle.range.specs.Range.{ioFits, windowFits, suspendFits}
 use Rattle.record.specs.Digits.{digits, value}
-use Rattle.record.specs.Record as k
-use Rattle.record.specs.Record.{second, Record, windowBytes, exitBytes, isTimed, timedFits}
+use Rattle.record.specs.Record.{second, Record, windowBytes, exitBytes, isTimed, timedFits, exitDataFits}
 use Rattle.record.specs.File.{limit, timeOf, mayFollow, mayEnd}
 use Rattle.record.proofs.Numbers.{length-digits, value-digits}
+use Rattle.record.proofs.Records.{length-window}
 use Rattle.record.proofs.Reading.{InRange}
 use Rattle.session.specs.Step.{natural, moment}
 use Rattle.delivery.specs.Recording.{TimedRecord, io, window, suspend, Recording, acceptRecord, recordOf, exitRecord, time, inRange, All, Valid}
@@ -100,10 +100,6 @@ window-same a b c d p q r s e =
     let x = append-same (digits 2 a) (digits 2 b) (digits 2 c) (digits 2 d) (length-digits 2 a ∙ sym (length-digits 2 c)) e in
     (two-digits a c p r (x .0), two-digits b d q s (x .1))
 
-pub length-window : (a b : ℕ) → length (windowBytes a b) ≡ 4
-unfolding windowBytes
-length-window a b = omega (arith, length-append (digits 2 a) (digits 2 b), length-digits 2 a, length-digits 2 b)
-
 flags : (a b : Bool) (n m : ℕ) → n ≤ 127 → m ≤ 127 → pick a 128 0 + n ≡ pick b 128 0 + m → (a ≡ b) × (n ≡ m)
 flags true true n m h k e = (refl, omega arith)
 flags false false n m h k e = (refl, omega arith)
@@ -148,7 +144,7 @@ suspend-in s e = both-true (momentFits (s .delay)) (sized 1 127 (s .contents)) e
 pub record Stored (r : Record) : Type 0 where
   pub from : 6 ≤ r .kind
   pub to : r .kind ≤ 12
-  pub fits : timedFits (r .kind) (r .contents) ≡ true
+  pub fits : timedFits (r .kind) (length (r .contents)) ≡ true
   pub most : r .delay ≤ limit
 
 pub stored : (t : TimedRecord) → inRange t ≡ true → Stored (recordOf t)
@@ -179,7 +175,7 @@ pub time-is : (t : TimedRecord) → StorableTimed t → time t ≡ recordOf t .d
 unfolding timeOf
 time-is t v = rw (timed-kind (recordOf t) (stored t (v .in-range)))
 
-pub may-follow : (sum : ℕ) (t : TimedRecord) → StorableTimed t → sum + recordOf t .delay ≤ limit → mayFollow sum (recordOf t) ≡ true
+pub may-follow : (sum : ℕ) (t : TimedRecord) → StorableTimed t → sum + recordOf t .delay ≤ limit → mayFollow sum (recordOf t .kind) (recordOf t .delay) (length (recordOf t .contents)) ≡ true
 unfolding mayFollow
 may-follow sum t v h =
     let s = stored t (v .in-range) in
@@ -204,7 +200,7 @@ low-bits true n h = omega arith
 low-bits false n h = omega arith
 
 pub may-end : (e : Exit) → g.exitFits e ≡ true → mayEnd (exitRecord e) [] ≡ true
-unfolding mayEnd exitRecord exitBytes k.exitFits
+unfolding mayEnd exitRecord exitBytes exitDataFits
 may-end e h =
     let l : length (e .signal) ≤ 127 = exit-in e h .2 in
     let a = length-append (e .signal) (e .error) in

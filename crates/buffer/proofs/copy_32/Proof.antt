@@ -2,8 +2,8 @@ use mathlib.Core.Path.{ap, _∙_}
 use Prim.Native.Nat.{ℕ, _+_}
 use mathlib.Core.List.{List}
 use borrow.Author.Needs.{needs}
-use Rattle.block.specs.Block.{stored}
-use Rattle.buffer.proofs.Blocks.{stored-on}
+use Rattle.block.specs.Block.{blockStored}
+use Rattle.block.proofs.Blocks.{block-on}
 use Rattle.buffer.proofs.copy_32.Statement.{statement}
 use Rattle.buffer.proofs.copy_32.Tie as tie
 
@@ -26,8 +26,8 @@ returns : tie.Need-returns
 returns c =
     let a = c .before .before .before .before .before .before .before .before .before .before .args in
     c .before .before .copy-block2 .ensures
-    ∙ ap (λ (x : List ℕ). stored x (a .o + 16) (a .bytes .now) (a .j + 16) 15) (c .before .before .before .before .before .before .copy-block .ensures)
-    ∙ stored-on (a .area .now) (a .o) (a .bytes .now) (a .j) 15 15
+    ∙ ap (λ (x : List ℕ). blockStored x (a .o + 16) (a .bytes .now) (a .j + 16) 15) (c .before .before .before .before .before .before .copy-block .ensures)
+    ∙ block-on (a .area .now) (a .o) (a .bytes .now) (a .j) 15 15
 
 pub copy-32-spec : {M : Type 1} → statement M
 copy-32-spec =

@@ -1,8 +1,7 @@
-use Rattle.numbers.specs.Eight.{eight, eights}
-use mathlib.Core.List.{_++_}
-use mathlib.Core.Path.{refl}
-use Rattle.laws.proofs.Splice.{splice-next}
+use mathlib.Core.List.{[], _∷_}
 use native.Mathlib.Omega.{arith}
+use Rattle.numbers.specs.Eight.{eights}
+use Rattle.numbers.proofs.Lay.{one-more}
 use borrow.Author.Needs.{needs}
 use Rattle.numbers.proofs.put_five.Statement.{statement}
 use Rattle.numbers.proofs.put_five.Tie as tie
@@ -27,7 +26,14 @@ same-length c = search needs
 
 returns : tie.Need-returns
 unfolding eights
-returns c = let a = c .before .before .before .before .before .before .before .before .before .before .before .before .before .before .before .before .before .before .before .before .before .args in splice-next (a .out .now) _ _ 0 32 ((((eight (a .a)) ++ eight (a .b)) ++ eight (a .c)) ++ eight (a .d)) (eight (a .e)) refl (omega arith) (splice-next (a .out .now) _ _ 0 24 (((eight (a .a)) ++ eight (a .b)) ++ eight (a .c)) (eight (a .d)) refl (omega arith) (splice-next (a .out .now) _ _ 0 16 ((eight (a .a)) ++ eight (a .b)) (eight (a .c)) refl (omega arith) (splice-next (a .out .now) _ _ 0 8 (eight (a .a)) (eight (a .b)) refl (omega arith) (c .before .before .before .before .before .before .before .before .before .before .before .before .before .before .before .before .before .before .put .ensures) (c .before .before .before .before .before .before .before .before .before .before .before .before .before .before .put2 .ensures)) (c .before .before .before .before .before .before .before .before .before .before .put3 .ensures)) (c .before .before .before .before .before .before .put4 .ensures)) (c .before .before .put5 .ensures)
+returns c =
+    let a = c .before .before .before .before .before .before .before .before .before .before .before .before .before .before .before .before .before .before .before .before .before .args in
+    let out = a .out .now in
+    let p = c .before .before .before .before .before .before .before .before .before .before .before .before .before .before .before .before .before .before .put .ensures in
+    let p2 = one-more out _ _ (a .a ∷ []) (a .b) (omega arith) p (c .before .before .before .before .before .before .before .before .before .before .before .before .before .before .put2 .ensures) in
+    let p3 = one-more out _ _ (a .a ∷ a .b ∷ []) (a .c) (omega arith) p2 (c .before .before .before .before .before .before .before .before .before .before .put3 .ensures) in
+    let p4 = one-more out _ _ (a .a ∷ a .b ∷ a .c ∷ []) (a .d) (omega arith) p3 (c .before .before .before .before .before .before .put4 .ensures) in
+    one-more out _ _ (a .a ∷ a .b ∷ a .c ∷ a .d ∷ []) (a .e) (omega arith) p4 (c .before .before .put5 .ensures)
 
 pub put-five-spec : {M : Type 1} → statement M
 put-five-spec =

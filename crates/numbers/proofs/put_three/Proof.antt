@@ -1,8 +1,7 @@
-use Rattle.numbers.specs.Eight.{eight, eights}
-use mathlib.Core.List.{_++_}
-use mathlib.Core.Path.{refl}
-use Rattle.laws.proofs.Splice.{splice-next}
+use mathlib.Core.List.{[], _∷_}
 use native.Mathlib.Omega.{arith}
+use Rattle.numbers.specs.Eight.{eights}
+use Rattle.numbers.proofs.Lay.{one-more}
 use borrow.Author.Needs.{needs}
 use Rattle.numbers.proofs.put_three.Statement.{statement}
 use Rattle.numbers.proofs.put_three.Tie as tie
@@ -21,7 +20,12 @@ same-length c = search needs
 
 returns : tie.Need-returns
 unfolding eights
-returns c = let a = c .before .before .before .before .before .before .before .before .before .before .before .before .before .args in splice-next (a .out .now) _ _ 0 16 ((eight (a .a)) ++ eight (a .b)) (eight (a .c)) refl (omega arith) (splice-next (a .out .now) _ _ 0 8 (eight (a .a)) (eight (a .b)) refl (omega arith) (c .before .before .before .before .before .before .before .before .before .before .put .ensures) (c .before .before .before .before .before .before .put2 .ensures)) (c .before .before .put3 .ensures)
+returns c =
+    let a = c .before .before .before .before .before .before .before .before .before .before .before .before .before .args in
+    let out = a .out .now in
+    let p = c .before .before .before .before .before .before .before .before .before .before .put .ensures in
+    let p2 = one-more out _ _ (a .a ∷ []) (a .b) (omega arith) p (c .before .before .before .before .before .before .put2 .ensures) in
+    one-more out _ _ (a .a ∷ a .b ∷ []) (a .c) (omega arith) p2 (c .before .before .put3 .ensures)
 
 pub put-three-spec : {M : Type 1} → statement M
 put-three-spec =

@@ -31,41 +31,14 @@ put-digits-returns : Every put-digits-lts.Need-returns
 unfolding digits
 put-digits-returns t c = let a = c .before .before .args in rw (c .if1 .taken) (nothing (a .out .now) (a .at) (omega arith), omega arith)
 
-put-digits-add-out : Every put-digits-lts.Need-add-out
-put-digits-add-out t c = omega arith
-
-put-digits-cast-out : Every put-digits-lts.Need-cast-out
-put-digits-cast-out t c = omega arith
-
-put-digits-slice-write-out : Every put-digits-lts.Need-slice-write-out
-put-digits-slice-write-out t c = omega arith
-
-put-digits-add-result : Every put-digits-lts.Need-add-result
-put-digits-add-result t c = omega arith
-
 put-digits-same-length : Every put-digits-lts.Need-same-length
 put-digits-same-length t c = simp length-set
 
 put-digits-returns-2 : Every put-digits-lts.Need-returns-2
 put-digits-returns-2 t c = let a = c .before .before .before .args in rw (digits-one (a .k) (a .n) (c .before .if1 .left) (c .if2 .taken)) (put-byte (a .out .now) (a .at) _ (omega arith), omega arith)
 
-put-digits-sub-put-digits : Every put-digits-lts.Need-sub-put-digits
-put-digits-sub-put-digits t c = omega arith
-
 put-digits-put-digits-requires : Every put-digits-lts.Need-put-digits-requires
 put-digits-put-digits-requires t c κs = (omega arith, omega arith)
-
-put-digits-add-out-2 : Every put-digits-lts.Need-add-out-2
-put-digits-add-out-2 t c = omega arith
-
-put-digits-cast-out-2 : Every put-digits-lts.Need-cast-out-2
-put-digits-cast-out-2 t c = omega arith
-
-put-digits-slice-write-out-2 : Every put-digits-lts.Need-slice-write-out-2
-put-digits-slice-write-out-2 t c = omega arith
-
-put-digits-add-result-2 : Every put-digits-lts.Need-add-result-2
-put-digits-add-result-2 t c = omega arith
 
 put-digits-same-length-2 : Every put-digits-lts.Need-same-length-2
 put-digits-same-length-2 t c = simp length-set (put-length (c .before .before .put-digits .ensures .0))
@@ -81,17 +54,17 @@ pub +put-digits-spec : {M : Type 1} → statement M
     (put-digits-at t)
     put-digits.Post
     (put-digits-returns t)
-    (put-digits-add-out t)
-    (put-digits-cast-out t)
-    (put-digits-slice-write-out t)
-    (put-digits-add-result t)
+    (λ c. omega arith)
+    (λ c. omega arith)
+    (λ c. omega arith)
+    (λ c. omega arith)
     (put-digits-same-length t)
     (put-digits-returns-2 t)
-    (put-digits-sub-put-digits t)
+    (λ c. omega arith)
     (put-digits-put-digits-requires t)
-    (put-digits-add-out-2 t)
-    (put-digits-cast-out-2 t)
-    (put-digits-slice-write-out-2 t)
-    (put-digits-add-result-2 t)
+    (λ c. omega arith)
+    (λ c. omega arith)
+    (λ c. omega arith)
+    (λ c. omega arith)
     (put-digits-same-length-2 t)
     (put-digits-returns-3 t)
