@@ -75,7 +75,7 @@ module _ (h : Host) (logs : h .session .state ≡ Logging) (a : Agrees h) where
     unfolding exitStored exitRecord added
     exit-stored =
         let r : Record = exitRecord e in
-        picked Taken (lengthsFit (h .session) (h .area) (h .used) (h .session .used)) _ _
+        picked Taken (lengthsFit (length (h .area)) (h .used) (h .session .used)) _ _
         (λ _.
         picked Taken (exitFits e) _ _
         (λ f.

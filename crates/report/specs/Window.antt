@@ -7,7 +7,7 @@ use Rattle.laws.specs.Base.{pick, both, part, splice}
 use Rattle.frame.specs.Frame.{cutOf}
 use Rattle.frame.specs.declared.Cut.{Cut}
 use Rattle.frame.specs.declared.Cut.the-variants as cut
-use Rattle.session.specs.Step.{Outcome, step, opened}
+use Rattle.session.specs.Step.{Outcome, newSession, step}
 use Rattle.words.specs.Words.{memberOf}
 use Rattle.wording.specs.Wording.{frameLine}
 use Rattle.ending.specs.Ending.{endLine}
@@ -44,7 +44,7 @@ pub record Turned : Type 0 where
   pub area : List ℕ
 
 abbrev pub started : Replay
-started = record { session = opened; used = 0; frames = 0 }
+started = record { session = newSession; used = 0; frames = 0 }
 
 -- frames are counted up to the greatest number of 64 bits
 unfoldable pub counted : ℕ → ℕ
