@@ -15,12 +15,12 @@ use Rattle.wire.specs.Read.{value, clientMessage}
 use Rattle.record.specs.Record.{Record}
 use Rattle.record.specs.File.{fileBytes}
 use Rattle.session.specs.State.{opening, recording, greeting, ending, alerting, turn}
-use Rattle.session.specs.Step.{Outcome, lengthsFit, growthRefusal, roomFor, timed, exitStored, onExit, act, inTurn, onReading, step}
+use Rattle.session.specs.Step.{Outcome, exitRecord, lengthsFit, growthRefusal, roomFor, timed, exitStored, onExit, act, inTurn, onReading, step}
 use Rattle.session.specs.declared.State.{State}
 use Rattle.session.specs.declared.State.the-variants.{Logging}
 use Rattle.session.specs.declared.Session.{Session}
 use Rattle.session.proofs.Lengths.{within-area, lengths}
-use Rattle.delivery.specs.Recording.{recordOf, exitRecord}
+use Rattle.delivery.specs.Recording.{recordOf}
 use Rattle.agreement.specs.Calls.{Host, answered}
 use Rattle.agreement.specs.Agreement.{Agrees, added}
 use Rattle.agreement.proofs.Files.{file-more}
@@ -52,7 +52,7 @@ module _ (h : Host) (logs : h .session .state ≡ Logging) (a : Agrees h) where
       (λ _ z. absurd (omega arith))
 
   exit-adds : (e : Exit) → Adds (exitRecord e ∷ []) (exitStored se (h .area) (h .used) e)
-  unfolding exitStored exitRecord
+  unfolding exitStored
   exit-adds e =
       let r : Record = exitRecord e in
       picked (Adds (r ∷ [])) (lengthsFit (length (h .area)) (h .used) (se .used)) _ _

@@ -20,10 +20,10 @@ use Rattle.record.proofs.Times.{accept-cons}
 use Rattle.record.proofs.Reading.{InRange, Ranged, no-records, one-more, file-of-records}
 use Rattle.record.proofs.Appends.{snoc, file-snoc, file-stored, kind-timed, total-timed, low-timed}
 use Rattle.record.proofs.Restarts.{keep-ranged, keep-kind, keep-total, keep-area}
-use Rattle.session.specs.Step.{fromAccept, fromRestart, grown}
+use Rattle.session.specs.Step.{acceptRecord, fromAccept, fromRestart, grown}
 use Rattle.session.specs.declared.Mark.{Mark}
 use Rattle.session.specs.declared.Mark.the-variants as mark
-use Rattle.delivery.specs.Recording.{All, acceptRecord}
+use Rattle.delivery.specs.Recording.{All}
 use Rattle.delivery.proofs.Files.{all-append}
 use Rattle.agreement.specs.Calls.{Host, untilPositive}
 use Rattle.agreement.specs.Agreement.{AreBytes, markOf, Agrees}
@@ -72,7 +72,7 @@ pub accept-agrees : (area d : Bytes) (used : ℕ) (T : Option ℕ) → used ≡ 
       used = used + length (recordBytes (acceptRecord d));
       restartPoint = T;
     })
-unfolding fileBytes total lowFrom timeOf isTimed restKind acceptRecord markOf
+unfolding fileBytes total lowFrom timeOf isTimed restKind markOf
 accept-agrees area d used T u e small =
     let r : Record = acceptRecord d in
     record {

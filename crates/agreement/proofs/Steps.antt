@@ -18,13 +18,13 @@ use Rattle.wire.specs.Read.{Reading, value, refused, clientMessage}
 use Rattle.record.specs.Record.{Record, recordBytes}
 use Rattle.record.specs.File.{limit, Records, all, none, recordsOf, total, FileKind, invalid, unfinished, finished, recordsKind, meets}
 use Rattle.session.specs.State.{opening, recording, greeting, ending, alerting, turn}
-use Rattle.session.specs.Step.{Outcome, moment, withinArea, lengthsFit, growthRefusal, taken, roomFor, timed, entriesFirst, acceptStored, onAccept, onReject, exitStored, onExit, resumed, byKind, ofRecords, onRestart, act, inTurn, onReading, step}
+use Rattle.session.specs.Step.{Outcome, moment, acceptRecord, withinArea, lengthsFit, growthRefusal, taken, roomFor, timed, entriesFirst, acceptStored, onAccept, onReject, exitStored, onExit, resumed, byKind, ofRecords, onRestart, act, inTurn, onReading, step}
 use Rattle.session.specs.declared.State.{State}
 use Rattle.session.specs.declared.State.the-variants.{New, Greeted, Logging, EventsOnly, Closed}
 use Rattle.session.specs.declared.Session.{Session}
 use Rattle.session.proofs.Lengths.{within-area, lengths}
 use Rattle.session.proofs.Timed.{growth-fits}
-use Rattle.delivery.specs.Recording.{TimedRecord, io, window, suspend, acceptRecord, recordOf, inRange}
+use Rattle.delivery.specs.Recording.{TimedRecord, io, window, suspend, recordOf, inRange}
 use Rattle.delivery.proofs.Values.{StorableTimed, timed-ranged, may-follow}
 use Rattle.agreement.specs.Calls.{Call, message, tick, behind, Host, untilPositive, afterTaken, afterMessage, left, over, withBehind, after}
 use Rattle.agreement.specs.Agreement.{Agrees, Unopened, InState, Stands}
@@ -81,7 +81,7 @@ module _ (h : Host) where
   entries-stand c in-it r k next a = picked (After c) in-it _ _ (λ _. picked (After c) (eqb r 0) _ _ (λ _. a) (λ _. tt)) (λ _. tt)
 
   placed-stands : (a : Accept) (d : Bytes) → Unopened h → lengthsFit (length (h .area)) (h .used) 0 ≡ true → After (acceptMsg a) (acceptStored se (h .area) (h .used) d)
-  unfolding acceptStored acceptRecord afterMessage afterTaken
+  unfolding acceptStored afterMessage afterTaken
   placed-stands a d u l =
       picked (After (acceptMsg a)) (roomFor se (h .area) (h .used) (acceptRecord d)) _ _
       (λ m. accept-agrees (h .area) d (h .used) (h .restartPoint) (lengths (length (h .area)) (h .used) 0 l .1) (u .no-point) (small se (h .area) (h .used) (acceptRecord d) m))

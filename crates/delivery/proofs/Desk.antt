@@ -15,7 +15,7 @@ use Rattle.range.specs.Range.{restartFits}
 use Rattle.wire.specs.Read.{value, clientMessage}
 use Rattle.record.specs.Record.{Record, recordBytes}
 use Rattle.record.specs.File.{recordsOf, fileBytes, total, fileKind}
-use Rattle.session.specs.Step.{Outcome, moment, fromAccept, grown, carrying, withinArea, lengthsFit, atMark, refuse, taken, roomFor, step}
+use Rattle.session.specs.Step.{Outcome, moment, acceptRecord, exitRecord, fromAccept, grown, carrying, withinArea, lengthsFit, atMark, refuse, taken, roomFor, step}
 use Rattle.session.specs.Answer.{mayOpen}
 use Rattle.session.specs.declared.State.{State}
 use Rattle.session.specs.declared.State.the-variants.{New, Greeted, Logging, Closed}
@@ -24,7 +24,7 @@ use Rattle.session.specs.declared.Mark.{Mark}
 use Rattle.session.specs.declared.Mark.the-variants as mark
 use Rattle.session.specs.declared.Point.{Point}
 use Rattle.session.specs.declared.Point.the-variants as point
-use Rattle.delivery.specs.Recording.{TimedRecord, io, window, suspend, Recording, acceptRecord, recordOf, exitRecord, records, time, totalOf, All, acceptOf}
+use Rattle.delivery.specs.Recording.{TimedRecord, io, window, suspend, Recording, recordOf, records, time, totalOf, All, acceptOf}
 use Rattle.delivery.specs.Sender.{Sent, hello, accept, restart, timed, exit, rest, Reads, Says, Lines, member}
 use Rattle.delivery.specs.Host.{countedMember, counted, booked, WholeRestart, carries, notedMember, noted, Answer, toTick, toMessage, Desk, hand, handAll}
 use Rattle.delivery.specs.World.{isPoint, stoppedAfter}

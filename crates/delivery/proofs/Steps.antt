@@ -15,14 +15,14 @@ use Rattle.required.specs.Required.{entriesRefusal, namedKey}
 use Rattle.record.specs.Record.{Record, recordBytes}
 use Rattle.record.specs.File.{all, recordsOf, fileBytes, limit, lowTotal, unfinished, finished, recordsKind, meets, keep}
 use Rattle.session.specs.State.{opening, recording, greeting, ending, alerting, turn}
-use Rattle.session.specs.Step.{moment, fromAccept, fromRestart, grown, ended, carrying, withinArea, lengthsFit, atMark, growthRefusal, refuse, taken, roomFor, stored, timed, acceptStored, exitStored, onExit, resumed, byKind, ofRecords, onRestart, act, inTurn, onReading, step}
+use Rattle.session.specs.Step.{moment, acceptRecord, exitRecord, fromAccept, fromRestart, grown, ended, carrying, withinArea, lengthsFit, atMark, growthRefusal, refuse, taken, roomFor, stored, timed, acceptStored, exitStored, onExit, resumed, byKind, ofRecords, onRestart, act, inTurn, onReading, step}
 use Rattle.session.specs.Answer.{mayOpen}
 use Rattle.session.specs.declared.State.{State}
 use Rattle.session.specs.declared.State.the-variants.{New, Greeted, Logging, EventsOnly, Closed}
 use Rattle.session.specs.declared.Session.{Session}
 use Rattle.session.specs.declared.Point.the-variants as point
 use Rattle.session.proofs.Turns.{opens, accept-placed}
-use Rattle.delivery.specs.Recording.{TimedRecord, io, window, suspend, Recording, acceptRecord, recordOf, exitRecord, inRange, acceptOf, Valid}
+use Rattle.delivery.specs.Recording.{TimedRecord, io, window, suspend, Recording, recordOf, inRange, acceptOf, Valid}
 use Rattle.delivery.specs.Sender.{Reads, member, received}
 
 module _ (se : Session) (area : Bytes) (used : ℕ) (s : Bytes) where
@@ -58,7 +58,7 @@ module _ (se : Session) (area : Bytes) (used : ℕ) (s : Bytes) where
   pub step-accept : (R : Recording) → Valid R → Reads s (acceptMsg (acceptOf R)) → received s ≡ R .accept → mayOpen (se .state) ≡ true
       → lengthsFit (length area) used 0 ≡ true → roomFor se area used (acceptRecord (R .accept)) ≡ true
       → step se area used s ≡ carrying point.Absent (fromAccept (used + length (recordBytes (acceptRecord (R .accept))))) (stored se area used (acceptRecord (R .accept)))
-  unfolding turn act acceptStored acceptRecord
+  unfolding turn act acceptStored
   step-accept R v r d o l p =
       let a : Accept = acceptOf R in
       by-member (acceptMsg a) r
@@ -87,7 +87,7 @@ module _ (se : Session) (area : Bytes) (used : ℕ) (s : Bytes) where
 
   pub step-exit : (e : Exit) → Reads s (exitMsg e) → exitFits e ≡ true → se .state ≡ Logging → lengthsFit (length area) used (se .used) ≡ true
       → roomFor se area used (exitRecord e) ≡ true → step se area used s ≡ carrying (point.At (se .total)) (ended se (used + length (recordBytes (exitRecord e)))) (stored se area used (exitRecord e))
-  unfolding inTurn turn ending act onExit exitStored exitRecord
+  unfolding inTurn turn ending act onExit exitStored
   step-exit e r v st l p = in-state Logging (exitMsg e) r st ∙ ap (λ (x : State). onExit se area used x e) st ∙ rw (l, v, p)
 
   -- ---- a restart in new or greeted

@@ -21,8 +21,8 @@ use Rattle.record.specs.Record.{second, Record, windowBytes, exitBytes, isTimed
 use Rattle.record.specs.File.{limit, timeOf, mayFollow, mayEnd}
 use Rattle.record.proofs.Numbers.{length-digits, value-digits}
 use Rattle.record.proofs.Reading.{InRange}
-use Rattle.session.specs.Step.{natural, moment}
-use Rattle.delivery.specs.Recording.{TimedRecord, io, window, suspend, Recording, acceptRecord, recordOf, exitRecord, time, inRange, All, Valid}
+use Rattle.session.specs.Step.{natural, moment, acceptRecord, exitRecord}
+use Rattle.delivery.specs.Recording.{TimedRecord, io, window, suspend, Recording, recordOf, time, inRange, All, Valid}
 
 -- ---- what can be stored
 
@@ -196,7 +196,6 @@ exit-in e h =
     (p .0, q .0, leb-true (length (e .signal)) 127 (r .1))
 
 pub exit-ranged : (e : Exit) → g.exitFits e ≡ true → Small (exitRecord e) → InRange (exitRecord e)
-unfolding exitRecord
 exit-ranged e h s = record { kind-fits = omega arith; delay-fits = moment-most (e .runTime) (exit-in e h .0); contents-fit = s }
 
 low-bits : (b : Bool) (n : ℕ) → n ≤ 127 → (pick b 128 0 + n) % 128 ≡ n
@@ -204,7 +203,7 @@ low-bits true n h = omega arith
 low-bits false n h = omega arith
 
 pub may-end : (e : Exit) → g.exitFits e ≡ true → mayEnd (exitRecord e) [] ≡ true
-unfolding mayEnd exitRecord exitBytes k.exitFits
+unfolding mayEnd exitBytes k.exitFits
 may-end e h =
     let l : length (e .signal) ≤ 127 = exit-in e h .2 in
     let a = length-append (e .signal) (e .error) in
@@ -245,7 +244,6 @@ same-timed t u v w e =
     record-same t u (v .in-range) (w .in-range) (ap (λ (r : Record). r .kind) e) (ap (λ (r : Record). r .delay) e) (ap (λ (r : Record). r .contents) e)
 
 pub same-exit : (a b : Exit) → g.exitFits a ≡ true → g.exitFits b ≡ true → exitRecord a ≡ exitRecord b → a ≡ b
-unfolding exitRecord
 same-exit a b p q e =
     let f = exit-in a p in
     let h = exit-in b q in

@@ -21,7 +21,7 @@ use Rattle.record.specs.File.{limit, Records, all, none, recordsOf, fileBytes, 
 use Rattle.record.proofs.Beginnings.{low-found, low-none}
 use Rattle.record.proofs.Restarts.{keep-total}
 use Rattle.session.specs.State.{Turn, to, notNow, turn}
-use Rattle.session.specs.Step.{Outcome, natural, moment, inState, grown, withinArea, lengthsFit, growthRefusal, refuse, roomFor, timed, entriesFirst, acceptStored, onAccept, onReject, exitStored, onExit, resumed, byKind, ofRecords, onRestart, act, inTurn, onReading, step}
+use Rattle.session.specs.Step.{Outcome, natural, moment, acceptRecord, inState, grown, withinArea, lengthsFit, growthRefusal, refuse, roomFor, timed, entriesFirst, acceptStored, onAccept, onReject, exitStored, onExit, resumed, byKind, ofRecords, onRestart, act, inTurn, onReading, step}
 use Rattle.session.proofs.Moments.{point-fits}
 use Rattle.session.proofs.Lengths.{within-area, lengths}
 use Rattle.session.proofs.Timed.{growth-fits}
@@ -109,9 +109,8 @@ module _ (se : Session) (h : Sound se) (area : Bytes) (used : ℕ) where
   stored-sound : (d : Bytes) → lengthsFit (length area) used 0 ≡ true → After (acceptStored se area used d)
   unfolding acceptStored
   stored-sound d l =
-      let r : Record = record { kind = 1; delay = 0; contents = d } in
-      picked After (roomFor se area used r) _ _
-      (λ m. record { used = end-fits se area used 0 l r m; total = omega arith; low = omega arith; mark = tt })
+      picked After (roomFor se area used (acceptRecord d)) _ _
+      (λ m. record { used = end-fits se area used 0 l (acceptRecord d) m; total = omega arith; low = omega arith; mark = tt })
       (λ _. refused-sound 12 0)
 
   accept-sound : (st : State) (d : Bytes) (a : Accept) → After (onAccept se area used st d a)
