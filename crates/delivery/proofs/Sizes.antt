@@ -27,11 +27,12 @@ use Rattle.message.specs.Message.{Bytes, Exit, Client, acceptMsg, rejectMsg, ex
 use Rattle.wire.specs.Read.{Reading, value, after, member, clientMessage}
 use Rattle.record.specs.Record.{exitBytes}
 use Rattle.session.specs.Step.{natural, acceptRecord, exitRecord}
+use Rattle.session.proofs.Stores.{length-window}
 use Rattle.delivery.specs.Recording.{TimedRecord, io, window, suspend, Recording, recordOf, inRange, All, Valid}
 use Rattle.delivery.specs.Sender as sent
 use Rattle.delivery.specs.Sender.{rest, messages, withHello, Reads, received, Says, Lines}
 use Rattle.delivery.specs.Progress.{Sendable}
-use Rattle.delivery.proofs.Values.{length-window, Small, StorableTimed, Storable}
+use Rattle.delivery.proofs.Values.{Small, StorableTimed, Storable}
 
 -- ---- the items of some bytes take no more than these
 

@@ -5,15 +5,13 @@ use mathlib.Core.Path.{_≡_, refl}
 use mathlib.Core.Bool.{Bool, true}
 use mathlib.Core.List.{List}
 use mathlib.Core.Logic.{⊎-elim}
-use lib.IntN.{ℤ, pos, negsuc}
 use lib.ListN.{length, take}
 use lib.Seq.{length-take-le}
 use lib.Dec.{leb, eqb}
 use borrow.Author.Tests.{leb-true, eqb-true}
 use Rattle.laws.proofs.Order.{picked, both-true, lt-or-le}
 use Rattle.fields.specs.Items.{items, lastItem, bytesOf}
-use Rattle.message.specs.Message.{Bytes, TimeSpec, Accept, Exit, Restart, Client, acceptMsg, rejectMsg, exitMsg, restartMsg, alertMsg, ioBuf, winsizeEvent, suspendEvent, helloMsg}
-use Rattle.limits.specs.Limits.{upTo, dateFits, momentFits}
+use Rattle.message.specs.Message.{Bytes, Accept, Exit, Restart, Client, acceptMsg, rejectMsg, exitMsg, restartMsg, alertMsg, ioBuf, winsizeEvent, suspendEvent, helloMsg}
 use Rattle.range.specs.Range.{acceptFits, reportFits, exitFits, restartFits, ioFits, windowFits, suspendFits}
 use Rattle.wire.specs.Read.{Reading, value, refused, clientMessage}
 use Rattle.record.specs.Record.{Record, recordBytes}
@@ -21,8 +19,8 @@ use Rattle.record.specs.File.{limit, Records, all, none, recordsOf, fileBytes, 
 use Rattle.record.proofs.Beginnings.{low-found, low-none}
 use Rattle.record.proofs.Restarts.{keep-total}
 use Rattle.session.specs.State.{Turn, to, notNow, turn}
-use Rattle.session.specs.Step.{Outcome, natural, moment, acceptRecord, inState, grown, withinArea, lengthsFit, growthRefusal, refuse, roomFor, timed, entriesFirst, acceptStored, onAccept, onReject, exitStored, onExit, resumed, byKind, ofRecords, onRestart, act, inTurn, onReading, step}
-use Rattle.session.proofs.Moments.{point-fits}
+use Rattle.session.specs.Step.{Outcome, moment, acceptRecord, inState, grown, withinArea, lengthsFit, growthRefusal, refuse, roomFor, timed, entriesFirst, acceptStored, onAccept, onReject, exitStored, onExit, resumed, byKind, ofRecords, onRestart, act, inTurn, onReading, step}
+use Rattle.session.proofs.Moments.{moment-most, point-fits}
 use Rattle.session.proofs.Lengths.{within-area, lengths}
 use Rattle.session.proofs.Timed.{growth-fits}
 use Rattle.session.specs.declared.State.{State}
@@ -31,19 +29,6 @@ use Rattle.session.specs.declared.Session.{Session}
 use Rattle.session.specs.declared.Mark.the-variants as mark
 use Rattle.saved.specs.Sound.{MarkSound, Sound}
 use Rattle.saved.proofs.Files.{kept-within}
-
--- ---- a moment in its range
-
-natural-most : (most : ℕ) (n : ℤ) → upTo most n ≡ true → natural n ≤ most
-unfolding upTo natural
-natural-most most (pos n) e = leb-true n most e
-natural-most most (negsuc n) e = omega arith
-
-pub moment-most : (t : TimeSpec) → momentFits t ≡ true → moment t ≤ limit
-unfolding momentFits dateFits moment
-moment-most t e =
-    let p = both-true (upTo 4294967295 (t .seconds)) (upTo 999999999 (t .nanoseconds)) e in
-    omega (arith, natural-most 4294967295 (t .seconds) (p .0), natural-most 999999999 (t .nanoseconds) (p .1))
 
 -- ---- a restart's numbers
 
