@@ -1,29 +1,29 @@
 -- What a message that is taken in logging adds to the file.
-use Prim.Native.Nat.{_+_}
+use Prim.Native.Nat.{_≤_}
 use native.Mathlib.Omega.{arith}
 use mathlib.Core.Path.{_≡_, sym, ap, _∙_}
-use mathlib.Core.Bool.{Bool}
+use mathlib.Core.Bool.{Bool, true}
 use mathlib.Core.List.{List, [], _∷_, _++_, append-nil}
 use lib.ListN.{length, take}
 use lib.Dec.{leb, eqb}
-use Rattle.laws.specs.Base.{both}
+use borrow.Author.Tests.{eqb-false}
 use Rattle.laws.proofs.Order.{picked}
 use Rattle.fields.specs.Items.{items, lastItem, bytesOf}
 use Rattle.message.specs.Message.{Bytes, Exit, Client, acceptMsg, rejectMsg, exitMsg, restartMsg, alertMsg, ioBuf, winsizeEvent, suspendEvent, helloMsg}
 use Rattle.range.specs.Range.{reportFits, exitFits, ioFits, windowFits, suspendFits}
 use Rattle.wire.specs.Read.{value, clientMessage}
 use Rattle.record.specs.Record.{Record}
-use Rattle.record.specs.File.{fileBytes, limit}
+use Rattle.record.specs.File.{fileBytes}
 use Rattle.session.specs.State.{opening, recording, greeting, ending, alerting, turn}
-use Rattle.session.specs.Step.{Outcome, lengthsFit, roomFor, atMark, timed, exitStored, onExit, act, inTurn, onReading, step}
+use Rattle.session.specs.Step.{Outcome, exitRecord, lengthsFit, growthRefusal, roomFor, timed, exitStored, onExit, act, inTurn, onReading, step}
 use Rattle.session.specs.declared.State.{State}
 use Rattle.session.specs.declared.State.the-variants.{Logging}
 use Rattle.session.specs.declared.Session.{Session}
-use Rattle.delivery.specs.Recording.{recordOf, exitRecord}
+use Rattle.session.proofs.Lengths.{within-area, lengths}
+use Rattle.delivery.specs.Recording.{recordOf}
 use Rattle.agreement.specs.Calls.{Host, answered}
 use Rattle.agreement.specs.Agreement.{Agrees, added}
 use Rattle.agreement.proofs.Files.{file-more}
-use Rattle.agreement.proofs.Steps.{lengths}
 
 module _ (h : Host) (logs : h .session .state ≡ Logging) (a : Agrees h) where
   abbrev se : Session
@@ -32,34 +32,35 @@ module _ (h : Host) (logs : h .session .state ≡ Logging) (a : Agrees h) where
   abbrev Adds : List Record → Outcome → Type 0
   Adds qs o = o .refusal ≡ 0 → take (o .used) (o .area) ≡ fileBytes (a .records ++ qs)
 
+  within : lengthsFit (length (h .area)) (h .used) (se .used) ≡ true → h .used ≤ length (h .area)
+  within l = within-area (length (h .area)) (h .used) (lengths (length (h .area)) (h .used) (se .used) l .0) .1
+
   timed-adds : (in-it : Bool) (r : Record) → Adds (r ∷ []) (timed se (h .area) (h .used) in-it r)
   unfolding timed
   timed-adds in-it r =
-      picked (Adds (r ∷ [])) (lengthsFit se (h .area) (h .used) (se .used)) _ _
+      picked (Adds (r ∷ [])) (lengthsFit (length (h .area)) (h .used) (se .used)) _ _
       (λ l.
       picked (Adds (r ∷ [])) in-it _ _
       (λ _.
-      picked (Adds (r ∷ [])) (leb (se .total + r .delay) limit) _ _
-      (λ _.
-      picked (Adds (r ∷ [])) (both (eqb (r .delay) 0) (atMark se (h .area) (h .used) (se .mark))) _ _ (λ _ z. absurd (omega arith))
+      picked (Adds (r ∷ [])) (eqb (growthRefusal se (r .delay)) 0) _ _
       (λ _.
       picked (Adds (r ∷ [])) (roomFor se (h .area) (h .used) r) _ _
-      (λ _ _. file-more h a r (lengths se (h .area) (h .used) (se .used) l .0))
-      (λ _ z. absurd (omega arith))))
+      (λ _ _. file-more h a r (within l))
       (λ _ z. absurd (omega arith)))
+      (λ n z. absurd (eqb-false (growthRefusal se (r .delay)) 0 n z)))
       (λ _ z. absurd (omega arith)))
       (λ _ z. absurd (omega arith))
 
   exit-adds : (e : Exit) → Adds (exitRecord e ∷ []) (exitStored se (h .area) (h .used) e)
-  unfolding exitStored exitRecord
+  unfolding exitStored
   exit-adds e =
       let r : Record = exitRecord e in
-      picked (Adds (r ∷ [])) (lengthsFit se (h .area) (h .used) (se .used)) _ _
+      picked (Adds (r ∷ [])) (lengthsFit (length (h .area)) (h .used) (se .used)) _ _
       (λ l.
       picked (Adds (r ∷ [])) (exitFits e) _ _
       (λ _.
       picked (Adds (r ∷ [])) (roomFor se (h .area) (h .used) r) _ _
-      (λ _ _. file-more h a r (lengths se (h .area) (h .used) (se .used) l .0))
+      (λ _ _. file-more h a r (within l))
       (λ _ z. absurd (omega arith)))
       (λ _ z. absurd (omega arith)))
       (λ _ z. absurd (omega arith))

@@ -9,7 +9,7 @@ use mathlib.Core.List.{List}
 use lib.ListN.{length, take}
 use lib.Dec.{leb, eqb}
 use borrow.Author.Tests.{eqb-false}
-use Rattle.laws.specs.Base.{both}
+use Rattle.laws.specs.Base.{pick, both}
 use Rattle.laws.proofs.Order.{picked}
 use Rattle.fields.specs.Items.{items, lastItem, bytesOf}
 use Rattle.message.specs.Message.{Bytes, Entry, Accept, Exit, Restart, Client, acceptMsg, rejectMsg, exitMsg, restartMsg, alertMsg, ioBuf, winsizeEvent, suspendEvent, helloMsg}
@@ -19,7 +19,7 @@ use Rattle.required.specs.Required.{entriesRefusal}
 use Rattle.record.specs.Record.{Record}
 use Rattle.record.specs.File.{limit, Records, all, none, recordsOf, FileKind, invalid, unfinished, finished, recordsKind, meets}
 use Rattle.session.specs.State.{Turn, to, notNow, turn}
-use Rattle.session.specs.Step.{Outcome, moment, refuse, lengthsFit, roomFor, atMark, timed, entriesFirst, acceptStored, onAccept, onReject, exitStored, onExit, resumed, byKind, ofRecords, onRestart, act, inTurn, onReading, step, loggingPoint, pointIn, tick}
+use Rattle.session.specs.Step.{Outcome, moment, withinArea, lengthsFit, atMark, growthRefusal, refuse, roomFor, timed, entriesFirst, acceptStored, onAccept, onReject, exitStored, onExit, resumed, byKind, ofRecords, onRestart, act, inTurn, onReading, step, loggingPoint, pointIn, tick}
 use Rattle.session.specs.declared.State.{State}
 use Rattle.session.specs.declared.State.the-variants.{New, Greeted, Logging, EventsOnly, Closed}
 use Rattle.session.specs.declared.Session.{Session}
@@ -31,6 +31,13 @@ use Rattle.agreement.proofs.Reader.{ReadNumbered, message-numbered, ent
 
 pub never-at : (t : ℕ) → point.Absent ≡ point.At t → ⊥
 never-at t e = let z : _≡_ {A = ℕ} 0 1 = cc in omega arith
+
+growth-most : (se : Session) (delay : ℕ) → growthRefusal se delay ≤ 11
+unfolding growthRefusal
+growth-most se delay =
+    picked (λ (n : ℕ). n ≤ 11) (leb (se .total + delay) limit) _ _
+    (λ _. picked (λ (n : ℕ). n ≤ 11) (both (eqb delay 0) (atMark (se .mark) (se .total))) _ _ (λ _. omega arith) (λ _. omega arith))
+    (λ _. omega arith)
 
 -- Exits: this message is an exit in logging
 module _ (se : Session) (area : Bytes) (used : ℕ) (Exits : Type 0) where
@@ -47,20 +54,22 @@ module _ (se : Session) (area : Bytes) (used : ℕ) (Exits : Type 0) where
   refuses : (n k : ℕ) → 1 ≤ n → n ≤ 15 → Answered (refuse se area used n k)
   refuses n k lo hi = inr (record { from-one = lo; to-fifteen = hi; closes = refl; same-bytes = refl; same-length = refl; no-point = refl })
 
+  -- what follows, or a refusal where there is one
+  or-refuses : (n k : ℕ) (next : Outcome) → n ≤ 15 → Answered next → Answered (pick (eqb n 0) next (refuse se area used n k))
+  or-refuses n k next most h =
+      picked Answered (eqb n 0) _ _ (λ _. h) (λ e. let some : n ≡ 0 → ⊥ = eqb-false n 0 e in refuses n k (omega arith) most)
+
   -- ---- each message
 
   of-timed : (fits : Bool) (r : Record) → Answered (timed se area used fits r)
   unfolding timed
   of-timed fits r =
-      picked Answered (lengthsFit se area used (se .used)) _ _
+      picked Answered (lengthsFit (length area) used (se .used)) _ _
       (λ _.
       picked Answered fits _ _
       (λ _.
-      picked Answered (leb (se .total + r .delay) limit) _ _
-      (λ _.
-      picked Answered (both (eqb (r .delay) 0) (atMark se area used (se .mark))) _ _ (λ _. refuses 11 0 (omega arith) (omega arith))
-      (λ _. picked Answered (roomFor se area used r) _ _ (λ _. quiet _ refl refl) (λ _. refuses 12 0 (omega arith) (omega arith))))
-      (λ _. refuses 10 0 (omega arith) (omega arith)))
+      or-refuses (growthRefusal se (r .delay)) 0 _ (omega (arith, growth-most se (r .delay)))
+      (picked Answered (roomFor se area used r) _ _ (λ _. quiet _ refl refl) (λ _. refuses 12 0 (omega arith) (omega arith))))
       (λ _. refuses 7 0 (omega arith) (omega arith)))
       (λ _. refuses 15 0 (omega arith) (omega arith))
 
@@ -68,9 +77,7 @@ module _ (se : Session) (area : Bytes) (used : ℕ) (Exits : Type 0) where
   unfolding entriesFirst
   of-entries fits es k next h =
       picked Answered fits _ _
-      (λ _.
-      picked Answered (eqb (entriesRefusal es) 0) _ _ (λ _. h)
-      (λ e. let some : entriesRefusal es ≡ 0 → ⊥ = eqb-false (entriesRefusal es) 0 e in refuses (entriesRefusal es) k (omega arith) (omega (arith, entries-most es))))
+      (λ _. or-refuses (entriesRefusal es) k next (omega (arith, entries-most es)) h)
       (λ _. refuses 7 0 (omega arith) (omega arith))
 
   of-stored : (d : Bytes) → Answered (acceptStored se area used d)
@@ -82,7 +89,7 @@ module _ (se : Session) (area : Bytes) (used : ℕ) (Exits : Type 0) where
   of-accept st d a =
       picked Answered (a .expectIobufs) _ _
       (λ _.
-      picked Answered (lengthsFit se area used 0) _ _
+      picked Answered (lengthsFit (length area) used 0) _ _
       (λ _. of-entries (acceptFits a) (a .infoMsgs) _ _ (of-stored d))
       (λ _. refuses 15 0 (omega arith) (omega arith)))
       (λ _. of-entries (acceptFits a) (a .infoMsgs) _ _ (quiet _ refl refl))
@@ -90,7 +97,7 @@ module _ (se : Session) (area : Bytes) (used : ℕ) (Exits : Type 0) where
   of-exit-stored : (e : Exit) → Exits → Answered (exitStored se area used e)
   unfolding exitStored
   of-exit-stored e x =
-      picked Answered (lengthsFit se area used (se .used)) _ _
+      picked Answered (lengthsFit (length area) used (se .used)) _ _
       (λ _.
       picked Answered (exitFits e) _ _
       (λ _. picked Answered (roomFor se area used _) _ _ (λ _. inl (refl, λ t p. x)) (λ _. refuses 12 0 (omega arith) (omega arith)))
@@ -119,7 +126,7 @@ module _ (se : Session) (area : Bytes) (used : ℕ) (Exits : Type 0) where
   of-restart : (r : Restart) → Answered (onRestart se area used r)
   unfolding onRestart
   of-restart r =
-      picked Answered (lengthsFit se area used used) _ _
+      picked Answered (withinArea (length area) used) _ _
       (λ _.
       picked Answered (restartFits r) _ _
       (λ _. of-records (moment (r .resumePoint)) (recordsOf (take used area)))

@@ -20,12 +20,11 @@ use Rattle.record.proofs.Times.{accept-cons}
 use Rattle.record.proofs.Reading.{InRange, Ranged, no-records, one-more, file-of-records}
 use Rattle.record.proofs.Appends.{snoc, file-snoc, file-stored, kind-timed, total-timed, low-timed}
 use Rattle.record.proofs.Restarts.{keep-ranged, keep-kind, keep-total, keep-area}
-use Rattle.session.specs.Step.{grown}
-use Rattle.session.specs.declared.State.the-variants.{Logging}
+use Rattle.session.specs.Step.{acceptRecord, fromAccept, fromRestart, grown}
 use Rattle.session.specs.declared.Mark.{Mark}
 use Rattle.session.specs.declared.Session.{Session}
 use Rattle.session.specs.declared.Mark.the-variants as mark
-use Rattle.delivery.specs.Recording.{All, acceptRecord}
+use Rattle.delivery.specs.Recording.{All}
 use Rattle.delivery.proofs.Files.{all-append}
 use Rattle.agreement.specs.Calls.{Host, untilPositive}
 use Rattle.agreement.specs.Agreement.{AreBytes, markOf, Agrees}
@@ -84,12 +83,12 @@ mark-later false m T e = refl
 -- an accept's record, stored in an area of which nothing was used
 pub accept-agrees : (area d : Bytes) (used : ℕ) (T : Option ℕ) → used ≡ 0 → T ≡ none → length d ≤ 2097152
     → Agrees (record {
-      session = record { state = Logging; used = used + length (recordBytes (acceptRecord d)); total = 0; low = 0; mark = mark.Nothing };
+      session = fromAccept (used + length (recordBytes (acceptRecord d)));
       area = splice area used (recordBytes (acceptRecord d));
       used = used + length (recordBytes (acceptRecord d));
       restartPoint = T;
     })
-unfolding fileBytes total lowFrom timeOf isTimed restKind acceptRecord markOf
+unfolding fileBytes total lowFrom timeOf isTimed restKind markOf
 accept-agrees area d used T u e small =
     let r : Record = acceptRecord d in
     record {
@@ -121,7 +120,7 @@ module _ (h : Host) (a : Agrees h) (r : Record) (in-it : InRange r) (follows : m
 
   pub stored-agrees : h .used ≤ length (h .area)
       → Agrees (record {
-        session = grown (h .session) (h .area) (h .used) r;
+        session = grown (h .session) (h .used + length (recordBytes r)) (r .delay);
         area = splice (h .area) (h .used) (recordBytes r);
         used = h .used + length (recordBytes r);
         restartPoint = untilPositive (r .delay) (h .restartPoint);
@@ -150,7 +149,7 @@ module _ (area : Bytes) (used : ℕ) (within : used ≤ length area) (are-bytes 
     (reads : recordsOf (take used area) ≡ file.all rs) where
   pub restart-agrees : recordsKind rs ≡ unfinished → meets t 0 rs ≡ true
       → Agrees (record {
-        session = record { state = Logging; used = length (fileBytes (keep t 0 rs)); total = t; low = lowTotal (keep t 0 rs); mark = mark.At t };
+        session = fromRestart t (length (fileBytes (keep t 0 rs))) (lowTotal (keep t 0 rs));
         area = area;
         used = length (fileBytes (keep t 0 rs));
         restartPoint = some t;

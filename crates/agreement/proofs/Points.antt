@@ -18,12 +18,11 @@ use Rattle.record.proofs.Times.{exit-time}
 use Rattle.record.proofs.Appends.{kind-exit, total-snoc}
 use Rattle.record.proofs.Beginnings.{low-found, low-above}
 use Rattle.session.specs.State.{ending, turn}
-use Rattle.session.specs.Step.{Outcome, lengthsFit, roomFor, exitStored, onExit, act, inTurn, onReading, step, loggingPoint, pointIn, tick}
+use Rattle.session.specs.Step.{Outcome, exitRecord, lengthsFit, roomFor, exitStored, onExit, act, inTurn, onReading, step, loggingPoint, pointIn, tick}
 use Rattle.session.specs.declared.State.{State}
 use Rattle.session.specs.declared.State.the-variants.{Logging}
 use Rattle.session.specs.declared.Mark.{Mark}
 use Rattle.session.specs.declared.Point.the-variants as point
-use Rattle.delivery.specs.Recording.{exitRecord}
 use Rattle.delivery.proofs.Values.{may-end}
 use Rattle.agreement.specs.Calls.{Host, answered}
 use Rattle.agreement.specs.Agreement.{markOf, Agrees, added, GreatestBelow, TickPoint, Exited}
@@ -72,10 +71,10 @@ module _ (h : Host) (logs : h .session .state ≡ Logging) (a : Agrees h) where
     Taken o = o .refusal ≡ 0 → Exited rs e o
 
     exit-stored : Taken (exitStored (h .session) (h .area) (h .used) e)
-    unfolding exitStored exitRecord added
+    unfolding exitStored added
     exit-stored =
         let r : Record = exitRecord e in
-        picked Taken (lengthsFit (h .session) (h .area) (h .used) (h .session .used)) _ _
+        picked Taken (lengthsFit (length (h .area)) (h .used) (h .session .used)) _ _
         (λ _.
         picked Taken (exitFits e) _ _
         (λ f.

@@ -9,7 +9,7 @@ use lib.ListN.{length, take}
 use lib.Seq.{take-at, length-take-le}
 use lib.Dec.{leb, eqb}
 use borrow.Author.Tests.{leb-true, le-leb, eqb-true}
-use Rattle.laws.specs.Base.{pick, both}
+use Rattle.laws.specs.Base.{pick}
 use Rattle.laws.proofs.Order.{picked, both-true}
 use Rattle.fields.specs.Items.{items, lastItem, bytesOf}
 use Rattle.message.specs.Message.{Bytes, Accept, Report, Exit, Restart, Client, acceptMsg, rejectMsg, exitMsg, restartMsg, alertMsg, ioBuf, winsizeEvent, suspendEvent, helloMsg}
@@ -18,28 +18,21 @@ use Rattle.wire.specs.Read.{Reading, value, refused, clientMessage}
 use Rattle.record.specs.Record.{Record, recordBytes}
 use Rattle.record.specs.File.{limit, Records, all, none, recordsOf, total, FileKind, invalid, unfinished, finished, recordsKind, meets}
 use Rattle.session.specs.State.{opening, recording, greeting, ending, alerting, turn}
-use Rattle.session.specs.Step.{Outcome, moment, taken, lengthsFit, roomFor, atMark, timed, entriesFirst, acceptStored, onAccept, onReject, exitStored, onExit, resumed, byKind, ofRecords, onRestart, act, inTurn, onReading, step}
+use Rattle.session.specs.Step.{Outcome, moment, acceptRecord, withinArea, lengthsFit, growthRefusal, taken, roomFor, timed, entriesFirst, acceptStored, onAccept, onReject, exitStored, onExit, resumed, byKind, ofRecords, onRestart, act, inTurn, onReading, step}
 use Rattle.session.specs.declared.State.{State}
 use Rattle.session.specs.declared.State.the-variants.{New, Greeted, Logging, EventsOnly, Closed}
 use Rattle.session.specs.declared.Session.{Session}
-use Rattle.delivery.specs.Recording.{TimedRecord, io, window, suspend, acceptRecord, recordOf, inRange}
+use Rattle.session.proofs.Lengths.{within-area, lengths}
+use Rattle.session.proofs.Timed.{growth-fits}
+use Rattle.delivery.specs.Recording.{TimedRecord, io, window, suspend, recordOf, inRange}
 use Rattle.delivery.proofs.Values.{StorableTimed, timed-ranged, may-follow}
 use Rattle.agreement.specs.Calls.{Call, message, tick, behind, Host, untilPositive, afterTaken, afterMessage, left, over, withBehind, after}
 use Rattle.agreement.specs.Agreement.{Agrees, Unopened, InState, Stands}
 use Rattle.agreement.proofs.Members.{Known, ReadKnown, message-known}
 use Rattle.agreement.proofs.Files.{still-agrees, accept-agrees, stored-agrees, restart-agrees}
 
--- ---- lengths and room
-
--- the lengths of refusal 15 and the one that the call asks for
-pub lengths : (se : Session) (area : Bytes) (used want : ℕ) → lengthsFit se area used want ≡ true → (used ≤ length area) × (used ≡ want)
-unfolding lengthsFit
-lengths se area used want e =
-    let a = both-true (leb (length area) 1073741824) (both (leb used (length area)) (eqb used want)) e in
-    let b = both-true (leb used (length area)) (eqb used want) (a .1) in
-    (leb-true used (length area) (b .0), eqb-true used want (b .1))
-
-pub small : (se : Session) (area : Bytes) (used : ℕ) (r : Record) → roomFor se area used r ≡ true → length (r .contents) ≤ 2097152
+-- a record that has room
+small : (se : Session) (area : Bytes) (used : ℕ) (r : Record) → roomFor se area used r ≡ true → length (r .contents) ≤ 2097152
 unfolding roomFor
 small se area used r e = leb-true (length (r .contents)) 2097152 (both-true (leb (length (r .contents)) 2097152) (leb (length (recordBytes r)) (length area - used)) e .0)
 
@@ -65,20 +58,18 @@ module _ (h : Host) where
   unfolding timed afterMessage
   timed-stands c t in-it ranges point a =
       let r : Record = recordOf t in
-      picked (After c) (lengthsFit se (h .area) (h .used) (se .used)) _ _
+      picked (After c) (lengthsFit (length (h .area)) (h .used) (se .used)) _ _
       (λ l.
       picked (After c) in-it _ _
       (λ f.
-      picked (After c) (leb (se .total + r .delay) limit) _ _
-      (λ s.
-      picked (After c) (both (eqb (r .delay) 0) (atMark se (h .area) (h .used) (se .mark))) _ _ (λ _. tt)
-      (λ _.
+      picked (After c) (eqb (growthRefusal se (r .delay)) 0) _ _
+      (λ n.
       picked (After c) (roomFor se (h .area) (h .used) r) _ _
       (λ m.
       let v : StorableTimed t = record { in-range = ranges f; small = small se (h .area) (h .used) r m } in
-      let sum : total (a .records) + r .delay ≤ limit = omega (arith, a .carries-total, leb-true (se .total + r .delay) limit s) in
-      rw point (stored-agrees h a r (timed-ranged t v) (may-follow (total (a .records)) t v sum) (lengths se (h .area) (h .used) (se .used) l .0)))
-      (λ _. tt)))
+      let sum : total (a .records) + r .delay ≤ limit = omega (arith, a .carries-total, growth-fits se (r .delay) (eqb-true (growthRefusal se (r .delay)) 0 n)) in
+      rw point (stored-agrees h a r (timed-ranged t v) (may-follow (total (a .records)) t v sum) (within-area (length (h .area)) (h .used) (lengths (length (h .area)) (h .used) (se .used) l .0) .1)))
+      (λ _. tt))
       (λ _. tt))
       (λ _. tt))
       (λ _. tt)
@@ -89,11 +80,11 @@ module _ (h : Host) where
   unfolding entriesFirst
   entries-stand c in-it r k next a = picked (After c) in-it _ _ (λ _. picked (After c) (eqb r 0) _ _ (λ _. a) (λ _. tt)) (λ _. tt)
 
-  placed-stands : (a : Accept) (d : Bytes) → Unopened h → lengthsFit se (h .area) (h .used) 0 ≡ true → After (acceptMsg a) (acceptStored se (h .area) (h .used) d)
-  unfolding acceptStored acceptRecord afterMessage afterTaken
+  placed-stands : (a : Accept) (d : Bytes) → Unopened h → lengthsFit (length (h .area)) (h .used) 0 ≡ true → After (acceptMsg a) (acceptStored se (h .area) (h .used) d)
+  unfolding acceptStored afterMessage afterTaken
   placed-stands a d u l =
       picked (After (acceptMsg a)) (roomFor se (h .area) (h .used) (acceptRecord d)) _ _
-      (λ m. accept-agrees (h .area) d (h .used) (h .restartPoint) (lengths se (h .area) (h .used) 0 l .1) (u .no-point) (small se (h .area) (h .used) (acceptRecord d) m))
+      (λ m. accept-agrees (h .area) d (h .used) (h .restartPoint) (lengths (length (h .area)) (h .used) 0 l .1) (u .no-point) (small se (h .area) (h .used) (acceptRecord d) m))
       (λ _. tt)
 
   -- without I/O it gives events only
@@ -106,7 +97,7 @@ module _ (h : Host) where
   accept-stands a d u =
       picked (After (acceptMsg a)) (a .expectIobufs) _ _
       (λ _.
-      picked (After (acceptMsg a)) (lengthsFit se (h .area) (h .used) 0) _ _
+      picked (After (acceptMsg a)) (lengthsFit (length (h .area)) (h .used) 0) _ _
       (λ l. entries-stand (acceptMsg a) (acceptFits a) _ _ _ (placed-stands a d u l))
       (λ _. tt))
       (λ e. entries-stand (acceptMsg a) (acceptFits a) _ _ _ (events-only (a .expectIobufs) _ e))
@@ -133,10 +124,10 @@ module _ (h : Host) where
   restart-stands : (q : Restart) → Unopened h → After (restartMsg q) (onRestart se (h .area) (h .used) q)
   unfolding onRestart
   restart-stands q u =
-      picked (After (restartMsg q)) (lengthsFit se (h .area) (h .used) (h .used)) _ _
+      picked (After (restartMsg q)) (withinArea (length (h .area)) (h .used)) _ _
       (λ l.
       picked (After (restartMsg q)) (restartFits q) _ _
-      (λ _. records-stand q u (lengths se (h .area) (h .used) (h .used) l .0) (recordsOf (take (h .used) (h .area))) refl)
+      (λ _. records-stand q u (within-area (length (h .area)) (h .used) l .1) (recordsOf (take (h .used) (h .area))) refl)
       (λ _. tt))
       (λ _. tt)
 
@@ -147,7 +138,7 @@ module _ (h : Host) where
   exit-stands e New = tt
   exit-stands e Greeted = tt
   exit-stands e Logging =
-      picked (After (exitMsg e)) (lengthsFit se (h .area) (h .used) (se .used)) _ _
+      picked (After (exitMsg e)) (lengthsFit (length (h .area)) (h .used) (se .used)) _ _
       (λ _.
       picked (After (exitMsg e)) (exitFits e) _ _
       (λ _. picked (After (exitMsg e)) (roomFor se (h .area) (h .used) _) _ _ (λ _. tt) (λ _. tt))

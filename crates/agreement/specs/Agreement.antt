@@ -14,14 +14,14 @@ use Rattle.record.specs.File as file
 use Rattle.record.specs.File.{recordsOf, fileBytes, total, lowTotal, unfinished, finished, recordsKind}
 use Rattle.store.specs.Store.{fitsHeader}
 use Rattle.session.specs.Step as session
-use Rattle.session.specs.Step.{Outcome}
+use Rattle.session.specs.Step.{Outcome, exitRecord}
 use Rattle.session.specs.Examples.{accept, ttyout}
 use Rattle.session.specs.declared.State.{State}
 use Rattle.session.specs.declared.State.the-variants.{New, Greeted, Logging, EventsOnly, Closed}
 use Rattle.session.specs.declared.Mark.{Mark}
 use Rattle.session.specs.declared.Mark.the-variants as mark
 use Rattle.session.specs.declared.Point.the-variants as point
-use Rattle.delivery.specs.Recording.{io, window, suspend, recordOf, exitRecord, All}
+use Rattle.delivery.specs.Recording.{io, window, suspend, recordOf, All}
 use Rattle.agreement.specs.Calls.{Call, message, Host, answered, after, afterAll, begin}
 
 abbrev pub AreBytes : Bytes → Type 0

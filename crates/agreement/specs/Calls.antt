@@ -9,7 +9,7 @@ use lib.Dec.{leb, eqb}
 use Rattle.laws.specs.Base.{pick}
 use Rattle.message.specs.Message.{Bytes, Client, acceptMsg, rejectMsg, exitMsg, restartMsg, alertMsg, ioBuf, winsizeEvent, suspendEvent, helloMsg}
 use Rattle.wire.specs.Read.{Reading, value, refused, clientMessage}
-use Rattle.session.specs.Step.{Outcome, moment, step, opened}
+use Rattle.session.specs.Step.{Outcome, moment, newSession, step}
 use Rattle.session.specs.declared.Session.{Session}
 
 pub data Call : Type 0 where
@@ -74,4 +74,4 @@ afterAll h (c ∷ cs) = afterAll (after h c) cs
 
 -- a new session over an area of which this length is used
 abbrev pub begin : Bytes → ℕ → Host
-begin area used = record { session = opened; area = area; used = used; restartPoint = none }
+begin area used = record { session = newSession; area = area; used = used; restartPoint = none }

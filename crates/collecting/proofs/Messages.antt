@@ -6,8 +6,7 @@ use lib.ListN.{length}
 use borrow.Author.Tests.{le-leb, lt-leb}
 use Rattle.message.specs.Message.{Bytes}
 use Rattle.numbers.specs.Eight.{laid}
-use Rattle.session.specs.Step.{Outcome, step}
-use Rattle.session.specs.Answer.{outcome}
+use Rattle.session.specs.Step.{Outcome, outcome, step}
 use Rattle.session.specs.declared.Session.{Session}
 use Rattle.session.specs.declared.Answer.{Answer}
 use Rattle.saved.specs.Saved.{stateNumber, sessionOf, kept}

@@ -15,7 +15,6 @@ ghost use lib.ListN.{length};
 ghost use lib.Dec.{eqb};
 ghost use Rattle.laws.specs.Base.{pick};
 ghost use Rattle.session.specs.Step as st;
-ghost use Rattle.session.specs.Answer.{fileCheck};
 ghost use Rattle.saved.specs.Saved.{sessionOf, kept};
 ghost use Rattle.collecting.specs.Session.{hasPoint, pointNumber, messageAnswer, messageSlice, messageArea, messageOut, tickNumber, fileNumber};
 
@@ -23,7 +22,7 @@ ghost use Rattle.collecting.specs.Session.{hasPoint, pointNumber, messag
 #[no_mangle]
 pub extern "C" fn sudolog_session_open(slice: &mut [u8]) -> u8
     ensures answer { λ r. ⌜ r ≡ pick (eqb (length (now (slice .entry))) 40) 0 12 ⌝ }
-    ensures slice { λ r. ⌜ now (slice .exit) ≡ kept st.opened (now (slice .entry)) ⌝ }
+    ensures slice { λ r. ⌜ now (slice .exit) ≡ kept st.newSession (now (slice .entry)) ⌝ }
 {
     if save(slice, open()) {
         return 0;
@@ -96,7 +95,7 @@ pub extern "C" fn sudolog_session_tick(slice: &[u8]) -> u64
 // What the used bytes of an area are as a file.
 #[no_mangle]
 pub extern "C" fn sudolog_check_file(area: &[u8], used: usize) -> u8
-    ensures { λ r. ⌜ r ≡ fileNumber (fileCheck (now (area .entry)) used) ⌝ }
+    ensures { λ r. ⌜ r ≡ fileNumber (st.fileCheck (now (area .entry)) used) ⌝ }
 {
     match check_file(area, used) {
         FileCheck::Unfinished => 0,

@@ -15,7 +15,8 @@ use Rattle.record.specs.File.{fileBytes, timeOf, total, meets, keep}
 use Rattle.record.proofs.Appends.{snoc, file-append, file-snoc, file-stored}
 use Rattle.record.proofs.Restarts.{keep-area}
 use Rattle.record.proofs.Beginnings.{meets-yes}
-use Rattle.delivery.specs.Recording.{TimedRecord, Recording, acceptRecord, recordOf, exitRecord, records, totalOf}
+use Rattle.session.specs.Step.{acceptRecord, exitRecord}
+use Rattle.delivery.specs.Recording.{TimedRecord, Recording, recordOf, records, totalOf}
 use Rattle.delivery.proofs.Totals.{kept, later, kept-later, keep-is}
 use Rattle.delivery.proofs.Files.{map-append, begun, first, split-records, beginning-short}
 
@@ -97,11 +98,11 @@ next-exit R n k = record {
 -- ---- a restart
 
 accept-time : (d : Bytes) → timeOf (acceptRecord d) ≡ 0
-unfolding timeOf acceptRecord isTimed
+unfolding timeOf isTimed
 accept-time d = refl
 
 pub keep-begun : (R : Recording) (T : ℕ) (xs : List TimedRecord) → keep T 0 (begun R xs) ≡ begun R (kept 0 T xs)
-unfolding keep timeOf acceptRecord isTimed
+unfolding keep timeOf isTimed
 keep-begun R T xs = rw (le-leb 0 T (omega arith)) (ap (λ (l : List Record). acceptRecord (R .accept) ∷ l) (keep-is 0 T xs))
 
 pub meets-begun : (R : Recording) (T : ℕ) (xs : List TimedRecord) → totalOf (kept 0 T xs) ≡ T → meets T 0 (begun R xs) ≡ true

@@ -11,7 +11,8 @@ use Rattle.message.specs.Message.{Bytes}
 use Rattle.record.specs.Record.{Record}
 use Rattle.record.specs.File.{fileBytes, fileKind}
 use Rattle.record.proofs.Reading.{file-injective}
-use Rattle.delivery.specs.Recording.{TimedRecord, Recording, acceptRecord, recordOf, exitRecord, records, All}
+use Rattle.session.specs.Step.{exitRecord}
+use Rattle.delivery.specs.Recording.{TimedRecord, Recording, recordOf, records, All}
 use Rattle.delivery.specs.Host.{carries}
 use Rattle.delivery.specs.World.{World, fresh, file}
 use Rattle.delivery.specs.Demand.{Delivery, end, Carries, Demand3}
@@ -39,7 +40,7 @@ timed-same (t ∷ ts) (u ∷ us) v w e =
     λ i. h i ∷ r i
 
 same-file : (R Q : Recording) → Storable R → Storable Q → fileBytes (records R) ≡ fileBytes (records Q) → R ≡ Q
-unfolding records acceptRecord
+unfolding records
 same-file R Q v w e =
     let t : records R ≡ records Q = file-injective (records R) (records Q) (all-ranged R v) (all-ranged Q w) e in
     let a : R .accept ≡ Q .accept = ap (λ (r : Record). r .contents) (head-eq-of-cons-eq t) in

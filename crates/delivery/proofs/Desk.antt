@@ -15,8 +15,8 @@ use Rattle.range.specs.Range.{restartFits}
 use Rattle.wire.specs.Read.{value, clientMessage}
 use Rattle.record.specs.Record.{Record, recordBytes}
 use Rattle.record.specs.File.{recordsOf, fileBytes, total, fileKind}
-use Rattle.session.specs.Step.{Outcome, moment, refuse, taken, lengthsFit, roomFor, atMark, grown, step}
-use Rattle.session.specs.Answer.{mayOpen, storedTo}
+use Rattle.session.specs.Step.{Outcome, moment, acceptRecord, exitRecord, fromAccept, grown, carrying, withinArea, lengthsFit, atMark, refuse, taken, roomFor, step}
+use Rattle.session.specs.Answer.{mayOpen}
 use Rattle.session.specs.declared.State.{State}
 use Rattle.session.specs.declared.State.the-variants.{New, Greeted, Logging, Closed}
 use Rattle.session.specs.declared.Session.{Session}
@@ -24,7 +24,7 @@ use Rattle.session.specs.declared.Mark.{Mark}
 use Rattle.session.specs.declared.Mark.the-variants as mark
 use Rattle.session.specs.declared.Point.{Point}
 use Rattle.session.specs.declared.Point.the-variants as point
-use Rattle.delivery.specs.Recording.{TimedRecord, io, window, suspend, Recording, acceptRecord, recordOf, exitRecord, records, time, totalOf, All, acceptOf}
+use Rattle.delivery.specs.Recording.{TimedRecord, io, window, suspend, Recording, recordOf, records, time, totalOf, All, acceptOf}
 use Rattle.delivery.specs.Sender.{Sent, hello, accept, restart, timed, exit, rest, Reads, Says, Lines, member}
 use Rattle.delivery.specs.Host.{countedMember, counted, booked, WholeRestart, carries, notedMember, noted, Answer, toTick, toMessage, Desk, hand, handAll}
 use Rattle.delivery.specs.World.{isPoint, stoppedAfter}
@@ -32,7 +32,7 @@ use Rattle.delivery.proofs.Totals.{kept, later, kept-later, atMost-is, 
 use Rattle.delivery.proofs.Values.{StorableTimed, Storable, time-is}
 use Rattle.delivery.proofs.Files.{all-append, all-right, all-map, total-of-append, begun, first, size, Count, nothing, some-of, whole, count, beginning-short, begun-unfinished, read-begun, whole-finished, read-whole, carries-is}
 use Rattle.delivery.proofs.Areas.{Lies, Next, next-below, next-room, lies-next, size-next, next-accept, next-timed, next-exit, meets-begun, lies-kept}
-use Rattle.delivery.proofs.Steps.{lengths-fit, room-for, step-hello, step-accept, begins, step-timed, step-exit, step-restart, resumes, step-finished, step-closed}
+use Rattle.delivery.proofs.Steps.{within-area, lengths-fit, room-for, step-hello, step-accept, step-timed, step-exit, step-restart, resumes, step-finished, step-closed}
 
 -- ---- commit points
 
@@ -137,15 +137,15 @@ pub record Inv (R : Recording) (c : ℕ) (p : Option ℕ) (ms : List Sent) (d : 
 -- ---- a timed record
 
 -- one with delay zero is never sent at a restart point
-not-at-mark : (R : Recording) (n : ℕ) (se : Session) (area : Bytes) (used : ℕ) (t : TimedRecord) (ys : List TimedRecord) (m : Mark) → time t ≡ recordOf t .delay
-    → MarkOk R n (t ∷ ys) (se .total) (se .low) m → both (eqb (recordOf t .delay) 0) (atMark se area used m) ≡ false
+not-at-mark : (R : Recording) (n : ℕ) (se : Session) (t : TimedRecord) (ys : List TimedRecord) (m : Mark) → time t ≡ recordOf t .delay
+    → MarkOk R n (t ∷ ys) (se .total) (se .low) m → both (eqb (recordOf t .delay) 0) (atMark m (se .total)) ≡ false
 unfolding atMark
-not-at-mark R n se area used t ys mark.Nothing h k = go (eqb (recordOf t .delay) 0)
+not-at-mark R n se t ys mark.Nothing h k = go (eqb (recordOf t .delay) 0)
   where
     go : (b : Bool) → both b false ≡ false
     go true = refl
     go false = refl
-not-at-mark R n se area used t ys (mark.At T) h k = rw (ne-eqb (recordOf t .delay) 0 (λ e. let z = k .1 in omega arith))
+not-at-mark R n se t ys (mark.At T) h k = rw (ne-eqb (recordOf t .delay) 0 (λ e. let z = k .1 in omega arith))
 
 -- the marks after it
 module _ (R : Recording) (n : ℕ) (se : Session) (t : TimedRecord) (xs ys : List TimedRecord) (split : xs ++ t ∷ ys ≡ R .timed) (n-is : n ≡ suc (length xs))
@@ -239,8 +239,11 @@ module _ (R : Recording) (storable : Storable R) (c : ℕ) (fits : length (fileB
     used-fits : d .used ≤ length (d .area)
     used-fits = omega (arith, i .lies .used-is, beginning-short R (d .n), i .sized)
 
-    lengths : (want : ℕ) → d .used ≡ want → lengthsFit (d .session) (d .area) (d .used) want ≡ true
-    lengths want e = lengths-fit (d .session) (d .area) (d .used) s want (omega (arith, i .sized)) used-fits e
+    within : withinArea (length (d .area)) (d .used) ≡ true
+    within = within-area (d .session) (d .area) (d .used) s (omega (arith, i .sized)) used-fits
+
+    lengths : (want : ℕ) → d .used ≡ want → lengthsFit (length (d .area)) (d .used) want ≡ true
+    lengths want e = lengths-fit (d .session) (d .area) (d .used) s want within e
 
     room : (r : Record) → Next R (d .n) r → length (r .contents) ≤ 2097152 → roomFor (d .session) (d .area) (d .used) r ≡ true
     room r x h = room-for (d .session) (d .area) (d .used) s r h (omega (arith, i .lies .used-is, next-room R (d .n) r x, i .sized))
@@ -276,7 +279,7 @@ module _ (R : Recording) (storable : Storable R) (c : ℕ) (fits : length (fileB
         let a : Record = acceptRecord (R .accept) in
         let x : Next R (d .n) a = rw z (next-accept R) in
         let u : d .used ≡ 0 = i .lies .used-is ∙ ap (λ (k : ℕ). length (fileBytes (take k (records R)))) z in
-        stored-to (acceptMsg (acceptOf R)) a (begins (d .session) (d .area) (d .used) s (R .accept)) point.Absent (y .0 .read) x refl (λ w. refl)
+        stored-to (acceptMsg (acceptOf R)) a (fromAccept (d .used + length (recordBytes a))) point.Absent (y .0 .read) x refl (λ w. refl)
         (step-accept (d .session) (d .area) (d .used) s R (storable .valid) (y .0) (y .1) o (lengths 0 u) (room a x (storable .accept-small)))
         (unpointed R (suc (d .n)) 0 (λ b. absurd (never b)))
         (λ f se us k. logging (record {
@@ -303,9 +306,9 @@ module _ (R : Recording) (storable : Storable R) (c : ℕ) (fits : length (fileB
         let sums : totalOf xs + (time t + totalOf ys) ≡ totalOf (R .timed) = sym (total-of-append xs (t ∷ ys)) ∙ ap totalOf split in
         let marks : MarkOk R (d .n) (t ∷ ys) (d .session .total) (d .session .low) (d .session .mark) = rw e at (l .mark-ok) in
         let after-it = marks-after R (d .n) (d .session) t xs ys split (l .n-is) (l .total-is) delay marks (eqb (recordOf t .delay) 0) refl in
-        stored-to (member t) (recordOf t) (grown (d .session) (d .area) (d .used) (recordOf t)) point.Absent (y .read) x (counts-timed R t (d .n)) (notes-timed t)
+        stored-to (member t) (recordOf t) (grown (d .session) (d .used + length (recordBytes (recordOf t))) (recordOf t .delay)) point.Absent (y .read) x (counts-timed R t (d .n)) (notes-timed t)
         (step-timed (d .session) (d .area) (d .used) s t y (v .in-range) (l .state-is) (lengths (d .session .used) (l .used-same))
-        (omega (arith, l .total-is, storable .valid .within-limit)) (not-at-mark R (d .n) (d .session) (d .area) (d .used) t ys (d .session .mark) delay marks) (room (recordOf t) x (v .small)))
+        (omega (arith, l .total-is, storable .valid .within-limit)) (not-at-mark R (d .n) (d .session) t ys (d .session .mark) delay marks) (room (recordOf t) x (v .small)))
         (unpointed R (suc (d .n)) 0 (λ b. absurd (never b)))
         (λ f se us k. logging (record {
           stored-ones = xs ++ (t ∷ []);
@@ -405,7 +408,7 @@ module _ (R : Recording) (storable : Storable R) (c : ℕ) (fits : length (fileB
     restart-finished : (v : Restart) → Reads s (restartMsg v) → restartFits v ≡ true → mayOpen (d .session .state) ≡ true → d .n ≡ length (records R) → To
     restart-finished v r h o k =
         refused-to (restartMsg v) 13 r refl
-        (step-finished (d .session) (d .area) (d .used) s v r h o (lengths (d .used) refl) (records R) (ap recordsOf (i .lies .shows) ∙ read-whole R storable (d .n) k) (whole-finished R storable))
+        (step-finished (d .session) (d .area) (d .used) s v r h o within (records R) (ap recordsOf (i .lies .shows) ∙ read-whole R storable (d .n) k) (whole-finished R storable))
         k
 
     -- a restart that is taken
@@ -423,8 +426,8 @@ module _ (R : Recording) (storable : Storable R) (c : ℕ) (fits : length (fileB
         let is-first : take (suc (length K)) (records R) ≡ begun R K = first R K (later 0 T (R .timed)) (kept-later 0 T (R .timed)) in
         let good : Good R (suc (length K)) T = record { reached = g .reached; held = omega arith; below = g .below } in
         let se : Session = resumes (d .session) (d .area) (d .used) s T (begun R xs) in
-        rw (hand-is s (restartMsg v) d (storedTo se (d .area)) (suc (length K)) (r .read)
-        (step-restart (d .session) (d .area) (d .used) s v r h o (lengths (d .used) refl) (begun R xs)
+        rw (hand-is s (restartMsg v) d (carrying point.Absent se (d .area)) (suc (length K)) (r .read)
+        (step-restart (d .session) (d .area) (d .used) s v r h o within (begun R xs)
         (ap recordsOf (i .lies .shows) ∙ ap (λ (z : ℕ). recordsOf (fileBytes (take z (records R)))) k ∙ read-begun R storable xs ys e) (begun-unfinished R storable xs ys e)
         (meets-begun R T xs (ap totalOf same ∙ g .reached)))
         (book-counts (restartMsg v) (d .n) below ∙ ap suc (atMost-is 0 T (R .timed))))

@@ -13,7 +13,8 @@ use Rattle.record.specs.File.{Records, all, recordsOf, fileBytes, limit, total,
 use Rattle.record.proofs.Times.{rest-cons, accept-cons}
 use Rattle.record.proofs.Reading.{InRange, Ranged, no-records, one-more, records-of-file}
 use Rattle.record.proofs.Appends.{file-append, ranged-append, kind-exit, total-append}
-use Rattle.delivery.specs.Recording.{TimedRecord, Recording, acceptRecord, recordOf, exitRecord, records, time, totalOf, All}
+use Rattle.session.specs.Step.{acceptRecord, exitRecord}
+use Rattle.delivery.specs.Recording.{TimedRecord, Recording, recordOf, records, time, totalOf, All}
 use Rattle.delivery.specs.Host.{carries}
 use Rattle.delivery.proofs.Values.{StorableTimed, Storable, timed-ranged, time-is, may-follow, exit-ranged, may-end}
 
@@ -117,7 +118,6 @@ module _ (R : Recording) where
 
   module _ (storable : Storable R) where
     accept-ranged : InRange (acceptRecord (R .accept))
-    unfolding acceptRecord
     accept-ranged = record { kind-fits = omega arith; delay-fits = omega arith; contents-fit = storable .accept-small }
 
     begun-ranged : (xs : List TimedRecord) → All StorableTimed xs → Ranged (begun xs)
@@ -129,7 +129,6 @@ module _ (R : Recording) where
         (one-more (exit-ranged (R .exit) (storable .valid .exit-in-range) (storable .exit-small)) no-records)
 
     pub begun-unfinished : (xs ys : List TimedRecord) → xs ++ ys ≡ R .timed → recordsKind (begun xs) ≡ unfinished
-    unfolding acceptRecord
     begun-unfinished xs ys e =
         let sums : totalOf xs + totalOf ys ≡ totalOf (R .timed) = sym (total-of-append xs ys) ∙ ap totalOf e in
         accept-cons (acceptRecord (R .accept)) (map recordOf xs) refl refl

@@ -227,7 +227,7 @@ module _ (R : Recording) (blank : ℕ → Bytes) where
       start = opened w (l .bodies) a
 
       connection : Connection
-      connection = record { area = areaOf (w .latest) a; session = session.opened; line = line; out = [] }
+      connection = record { area = areaOf (w .latest) a; session = session.newSession; line = line; out = [] }
 
       finish : World
       finish = inside R start connection (bytes (length line))

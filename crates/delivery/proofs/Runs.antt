@@ -16,7 +16,7 @@ use Rattle.record.specs.Record.{recordBytes}
 use Rattle.record.specs.File.{fileBytes, total}
 use Rattle.record.proofs.Records.{length-record}
 use Rattle.session.specs.Step as session
-use Rattle.session.specs.Step.{loggingPoint, pointIn}
+use Rattle.session.specs.Step.{acceptRecord, exitRecord, loggingPoint, pointIn}
 use Rattle.session.specs.Answer.{mayOpen}
 use Rattle.session.specs.declared.State.{State}
 use Rattle.session.specs.declared.State.the-variants.{New, Greeted, Logging, EventsOnly, Closed}
@@ -24,7 +24,7 @@ use Rattle.session.specs.declared.Mark.{Mark}
 use Rattle.session.specs.declared.Mark.the-variants as mark
 use Rattle.session.specs.declared.Point.{Point}
 use Rattle.session.specs.declared.Point.the-variants as point
-use Rattle.delivery.specs.Recording.{TimedRecord, Recording, acceptRecord, recordOf, exitRecord, records, All}
+use Rattle.delivery.specs.Recording.{TimedRecord, Recording, recordOf, records, All}
 use Rattle.delivery.specs.Sender.{Place, Sent, messages, withHello, Lines}
 use Rattle.delivery.specs.Host.{frames, Drained, cutAll, booked, Answer, toTick, toMessage, Desk, hand, handAll}
 use Rattle.delivery.specs.World.{Connection, World, fresh, Event, opening, bytes, tick, arrival, break, withConnection, opened, put, desk, settled, cameIn, tickAnswers, stoppedAfter, arrived, inside, outside, happens, run, Fresh, Proper, AllProper}

@@ -26,8 +26,8 @@ use Rattle.message.specs.Message as m
 use Rattle.message.specs.Message.{Bytes, Exit, Client, acceptMsg, rejectMsg, exitMsg, restartMsg, alertMsg, ioBuf, winsizeEvent, suspendEvent, helloMsg, clientMember}
 use Rattle.wire.specs.Read.{Reading, value, after, member, clientMessage}
 use Rattle.record.specs.Record.{exitBytes}
-use Rattle.session.specs.Step.{natural}
-use Rattle.delivery.specs.Recording.{TimedRecord, io, window, suspend, Recording, acceptRecord, recordOf, exitRecord, inRange, All, Valid}
+use Rattle.session.specs.Step.{natural, acceptRecord, exitRecord}
+use Rattle.delivery.specs.Recording.{TimedRecord, io, window, suspend, Recording, recordOf, inRange, All, Valid}
 use Rattle.delivery.specs.Sender as sent
 use Rattle.delivery.specs.Sender.{rest, messages, withHello, Reads, received, Says, Lines}
 use Rattle.delivery.specs.Progress.{Sendable}
@@ -158,7 +158,6 @@ reads-short t c r =
 -- ---- what the sender says has records that can be stored
 
 accept-small : (t d : Bytes) → Says t (sent.accept d) → Small (acceptRecord d)
-unfolding acceptRecord
 accept-small t d y =
     let l : length (received t) ≡ length d = ap length (y .1) in
     omega (arith, held (lastItem 1 13 (items t)), last-room 1 13 none (items t), items-within t, y .0 .fits)
@@ -170,7 +169,7 @@ timed-small t (window w) y = omega (arith, length-window (natural (w .rows)) (na
 timed-small t (suspend x) y = reads-short t (suspendEvent x) y
 
 exit-small : (t : Bytes) (e : Exit) → Says t (sent.exit e) → Small (exitRecord e)
-unfolding exitRecord exitBytes
+unfolding exitBytes
 exit-small t e y = let h = reads-short t (exitMsg e) y in omega (arith, length-append (e .signal) (e .error))
 
 -- a valid recording that some messages say

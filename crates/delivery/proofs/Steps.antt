@@ -15,14 +15,14 @@ use Rattle.required.specs.Required.{entriesRefusal, namedKey}
 use Rattle.record.specs.Record.{Record, recordBytes}
 use Rattle.record.specs.File.{all, recordsOf, fileBytes, limit, lowTotal, unfinished, finished, recordsKind, meets, keep}
 use Rattle.session.specs.State.{opening, recording, greeting, ending, alerting, turn}
-use Rattle.session.specs.Step.{moment, refuse, taken, lengthsFit, roomFor, stored, atMark, grown, timed, acceptStored, exitStored, onExit, resumed, byKind, ofRecords, onRestart, act, inTurn, onReading, step}
-use Rattle.session.specs.Answer.{mayOpen, sizesFit, storedTo, exitedTo}
+use Rattle.session.specs.Step.{moment, acceptRecord, exitRecord, fromAccept, fromRestart, grown, ended, carrying, withinArea, lengthsFit, atMark, growthRefusal, refuse, taken, roomFor, stored, timed, acceptStored, exitStored, onExit, resumed, byKind, ofRecords, onRestart, act, inTurn, onReading, step}
+use Rattle.session.specs.Answer.{mayOpen}
 use Rattle.session.specs.declared.State.{State}
 use Rattle.session.specs.declared.State.the-variants.{New, Greeted, Logging, EventsOnly, Closed}
 use Rattle.session.specs.declared.Session.{Session}
-use Rattle.session.specs.declared.Mark.the-variants as mark
+use Rattle.session.specs.declared.Point.the-variants as point
 use Rattle.session.proofs.Turns.{opens, accept-placed}
-use Rattle.delivery.specs.Recording.{TimedRecord, io, window, suspend, Recording, acceptRecord, recordOf, exitRecord, inRange, acceptOf, Valid}
+use Rattle.delivery.specs.Recording.{TimedRecord, io, window, suspend, Recording, recordOf, inRange, acceptOf, Valid}
 use Rattle.delivery.specs.Sender.{Reads, member, received}
 
 module _ (se : Session) (area : Bytes) (used : ℕ) (s : Bytes) where
@@ -35,9 +35,13 @@ module _ (se : Session) (area : Bytes) (used : ℕ) (s : Bytes) where
   in-state st c r e = by-member c r ∙ ap (λ (x : State). inTurn se area used (turn x c) (received s) c) e
 
   -- lengths and room
-  pub lengths-fit : (want : ℕ) → length area ≤ 1073741824 → used ≤ length area → used ≡ want → lengthsFit se area used want ≡ true
+  pub within-area : length area ≤ 1073741824 → used ≤ length area → withinArea (length area) used ≡ true
+  unfolding withinArea
+  within-area h l = rw (le-leb (length area) 1073741824 h, le-leb used (length area) l)
+
+  pub lengths-fit : (want : ℕ) → withinArea (length area) used ≡ true → used ≡ want → lengthsFit (length area) used want ≡ true
   unfolding lengthsFit
-  lengths-fit want h l e = rw (le-leb (length area) 1073741824 h, le-leb used (length area) l, eq-eqb used want e)
+  lengths-fit want h e = rw (h, eq-eqb used want e)
 
   pub room-for : (r : Record) → length (r .contents) ≤ 2097152 → used + length (recordBytes r) ≤ length area → roomFor se area used r ≡ true
   unfolding roomFor
@@ -51,14 +55,10 @@ module _ (se : Session) (area : Bytes) (used : ℕ) (s : Bytes) where
 
   -- ---- the recording's accept, in new or greeted, over a used length of 0
 
-  -- the session after the accept
-  abbrev pub begins : Bytes → Session
-  begins d = record { state = Logging; used = used + length (recordBytes (acceptRecord d)); total = 0; low = 0; mark = mark.Nothing }
-
   pub step-accept : (R : Recording) → Valid R → Reads s (acceptMsg (acceptOf R)) → received s ≡ R .accept → mayOpen (se .state) ≡ true
-      → lengthsFit se area used 0 ≡ true → roomFor se area used (acceptRecord (R .accept)) ≡ true
-      → step se area used s ≡ storedTo (begins (R .accept)) (stored se area used (acceptRecord (R .accept)))
-  unfolding turn act acceptStored acceptRecord lengthsFit sizesFit
+      → lengthsFit (length area) used 0 ≡ true → roomFor se area used (acceptRecord (R .accept)) ≡ true
+      → step se area used s ≡ carrying point.Absent (fromAccept (used + length (recordBytes (acceptRecord (R .accept))))) (stored se area used (acceptRecord (R .accept)))
+  unfolding turn act acceptStored
   step-accept R v r d o l p =
       let a : Accept = acceptOf R in
       by-member (acceptMsg a) r
@@ -76,23 +76,23 @@ module _ (se : Session) (area : Bytes) (used : ℕ) (s : Bytes) where
   acts-timed (window w) d e = ap (λ (b : Bool). timed se area used b (recordOf (window w))) e
   acts-timed (suspend x) d e = ap (λ (b : Bool). timed se area used b (recordOf (suspend x))) e
 
-  pub step-timed : (t : TimedRecord) → Reads s (member t) → inRange t ≡ true → se .state ≡ Logging → lengthsFit se area used (se .used) ≡ true
-      → se .total + recordOf t .delay ≤ limit → both (eqb (recordOf t .delay) 0) (atMark se area used (se .mark)) ≡ false → roomFor se area used (recordOf t) ≡ true
-      → step se area used s ≡ storedTo (grown se area used (recordOf t)) (stored se area used (recordOf t))
-  unfolding timed
+  pub step-timed : (t : TimedRecord) → Reads s (member t) → inRange t ≡ true → se .state ≡ Logging → lengthsFit (length area) used (se .used) ≡ true
+      → se .total + recordOf t .delay ≤ limit → both (eqb (recordOf t .delay) 0) (atMark (se .mark) (se .total)) ≡ false → roomFor se area used (recordOf t) ≡ true
+      → step se area used s ≡ carrying point.Absent (grown se (used + length (recordBytes (recordOf t))) (recordOf t .delay)) (stored se area used (recordOf t))
+  unfolding timed growthRefusal
   step-timed t r v e l h z p =
       in-state Logging (member t) r e ∙ acts-timed t (received s) v ∙ rw (l, le-leb (se .total + recordOf t .delay) limit h, z, p)
 
   -- ---- the exit in logging
 
-  pub step-exit : (e : Exit) → Reads s (exitMsg e) → exitFits e ≡ true → se .state ≡ Logging → lengthsFit se area used (se .used) ≡ true
-      → roomFor se area used (exitRecord e) ≡ true → step se area used s ≡ exitedTo se (used + length (recordBytes (exitRecord e))) (stored se area used (exitRecord e))
-  unfolding inTurn turn ending act onExit exitStored exitRecord
+  pub step-exit : (e : Exit) → Reads s (exitMsg e) → exitFits e ≡ true → se .state ≡ Logging → lengthsFit (length area) used (se .used) ≡ true
+      → roomFor se area used (exitRecord e) ≡ true → step se area used s ≡ carrying (point.At (se .total)) (ended se (used + length (recordBytes (exitRecord e)))) (stored se area used (exitRecord e))
+  unfolding inTurn turn ending act onExit exitStored
   step-exit e r v st l p = in-state Logging (exitMsg e) r st ∙ ap (λ (x : State). onExit se area used x e) st ∙ rw (l, v, p)
 
   -- ---- a restart in new or greeted
 
-  to-file : (r : Restart) → Reads s (restartMsg r) → restartFits r ≡ true → mayOpen (se .state) ≡ true → lengthsFit se area used used ≡ true
+  to-file : (r : Restart) → Reads s (restartMsg r) → restartFits r ≡ true → mayOpen (se .state) ≡ true → withinArea (length area) used ≡ true
       → step se area used s ≡ ofRecords se area used (moment (r .resumePoint)) (recordsOf (take used area))
   unfolding turn act onRestart
   to-file r h v o l =
@@ -100,15 +100,15 @@ module _ (se : Session) (area : Bytes) (used : ℕ) (s : Bytes) where
 
   -- the session after one that is taken
   abbrev pub resumes : ℕ → List Record → Session
-  resumes t rs = record { state = Logging; used = length (fileBytes (keep t 0 rs)); total = t; low = lowTotal (keep t 0 rs); mark = mark.At t }
+  resumes t rs = fromRestart t (length (fileBytes (keep t 0 rs))) (lowTotal (keep t 0 rs))
 
-  pub step-restart : (r : Restart) → Reads s (restartMsg r) → restartFits r ≡ true → mayOpen (se .state) ≡ true → lengthsFit se area used used ≡ true
+  pub step-restart : (r : Restart) → Reads s (restartMsg r) → restartFits r ≡ true → mayOpen (se .state) ≡ true → withinArea (length area) used ≡ true
       → (rs : List Record) → recordsOf (take used area) ≡ all rs → recordsKind rs ≡ unfinished → meets (moment (r .resumePoint)) 0 rs ≡ true
-      → step se area used s ≡ storedTo (resumes (moment (r .resumePoint)) rs) area
+      → step se area used s ≡ carrying point.Absent (resumes (moment (r .resumePoint)) rs) area
   unfolding ofRecords byKind resumed
   step-restart r h v o l rs e k p = to-file r h v o l ∙ rw (e, k, p)
 
-  pub step-finished : (r : Restart) → Reads s (restartMsg r) → restartFits r ≡ true → mayOpen (se .state) ≡ true → lengthsFit se area used used ≡ true
+  pub step-finished : (r : Restart) → Reads s (restartMsg r) → restartFits r ≡ true → mayOpen (se .state) ≡ true → withinArea (length area) used ≡ true
       → (rs : List Record) → recordsOf (take used area) ≡ all rs → recordsKind rs ≡ finished → step se area used s ≡ refuse se area used 13 0
   unfolding ofRecords byKind
   step-finished r h v o l rs e k = to-file r h v o l ∙ rw (e, k)

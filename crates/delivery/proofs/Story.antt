@@ -41,7 +41,7 @@ abbrev at-one : m.Restart
 at-one = record { logId = 0x61 ∷ []; resumePoint = record { seconds = pos 1; nanoseconds = pos 0 } }
 
 pub story : o.Story
-unfolding varintFrom schema kindOf takes tagFits tagOf tagAt fixedAt numberOf partOf payloadAt stepOf stepFrom stepAt before onStep checkFrom checkAt fieldOf fieldFrom fieldAt onField fieldsFrom fieldsAt among items lastFrom bytesOf everyBytes i.numberOf signed int64 int32 bool timeSpec timeField valueOf entry entries timed clientMember m.accept m.exit m.restart m.clientHello after member clientMessage upTo sized dateFits momentFits isSet entryFits entriesFit ioFits g.acceptFits g.exitFits g.restartFits q.sameBytes q.keyBytes q.lastFrom q.stringOrNone q.typesFrom q.has q.missingFrom q.entriesRefusal digits valueFrom packed headerBytes recordBytes exitBytes isTimed timedFits f.fileBytes f.unpacked f.recordAt f.before f.onFound f.recordsFrom f.recordsOf f.timeOf f.lowFrom f.mayFollow f.mayEnd f.restKind f.recordsKind f.meets f.keep splice t.opening t.recording t.ending t.turn s.natural s.moment s.lengthsFit s.roomFor s.atMark s.timed s.entriesFirst s.acceptStored s.onAccept s.exitStored s.onExit s.resumed s.byKind s.ofRecords s.onRestart s.act s.inTurn s.onReading s.step s.loggingPoint s.pointIn s.tick f.kindOf f.fileKind lengthOf cutOf exitDataFits t.greeting r.recordOf r.exitRecord r.acceptRecord r.records r.atMost r.greater d.rest d.messages d.member h.frame h.frames h.drainCut h.drain h.countedMember h.counted h.booked h.carries h.notedMember h.noted h.hand h.handAll w.fresh w.opened w.desk w.cameIn w.tickAnswers w.isPoint w.arrived w.inside w.outside w.happens w.run f.total r.inRange w.Proper w.AllProper
+unfolding varintFrom schema kindOf takes tagFits tagOf tagAt fixedAt numberOf partOf payloadAt stepOf stepFrom stepAt before onStep checkFrom checkAt fieldOf fieldFrom fieldAt onField fieldsFrom fieldsAt among items lastFrom bytesOf everyBytes i.numberOf signed int64 int32 bool timeSpec timeField valueOf entry entries timed clientMember m.accept m.exit m.restart m.clientHello after member clientMessage upTo sized dateFits momentFits isSet entryFits entriesFit ioFits g.acceptFits g.exitFits g.restartFits q.sameBytes q.keyBytes q.lastFrom q.stringOrNone q.typesFrom q.has q.missingFrom q.entriesRefusal digits valueFrom packed headerBytes recordBytes exitBytes isTimed timedFits f.fileBytes f.unpacked f.recordAt f.before f.onFound f.recordsFrom f.recordsOf f.timeOf f.lowFrom f.mayFollow f.mayEnd f.restKind f.recordsKind f.meets f.keep splice t.opening t.recording t.ending t.turn s.natural s.moment s.withinArea s.lengthsFit s.atMark s.growthRefusal s.roomFor s.timed s.entriesFirst s.acceptStored s.onAccept s.exitStored s.onExit s.resumed s.byKind s.ofRecords s.onRestart s.act s.inTurn s.onReading s.step s.loggingPoint s.pointIn s.tick f.kindOf f.fileKind lengthOf cutOf exitDataFits t.greeting r.recordOf r.records r.atMost r.greater d.rest d.messages d.member h.frame h.frames h.drainCut h.drain h.countedMember h.counted h.booked h.carries h.notedMember h.noted h.hand h.handAll w.fresh w.opened w.desk w.cameIn w.tickAnswers w.isPoint w.arrived w.inside w.outside w.happens w.run f.total r.inRange w.Proper w.AllProper
 story = record {
   given = record {
     valid = record {

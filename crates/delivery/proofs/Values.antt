@@ -13,16 +13,17 @@ use Rattle.laws.specs.Base.{pick, both}
 use Rattle.laws.proofs.Order.{both-true}
 use Rattle.message.specs.Message.{Bytes, TimeSpec, Timed, WindowSize, Exit}
 use Rattle.range.specs.Range as g
-use Rattle.limits.specs.Limits.{upTo, sized, dateFits, momentFits}
-use Rattle.range.specs.Range.{ioFits, windowFits, suspendFits}
+use Rattle.limits.specs.Limits.{upTo, sized, momentFits}
+use Rattle.range.specs.Range.{ioFits, suspendFits}
 use Rattle.record.specs.Digits.{digits, value}
 use Rattle.record.specs.Record.{second, Record, windowBytes, exitBytes, isTimed, timedFits, exitDataFits}
 use Rattle.record.specs.File.{limit, timeOf, mayFollow, mayEnd}
 use Rattle.record.proofs.Numbers.{length-digits, value-digits}
 use Rattle.record.proofs.Records.{length-window}
 use Rattle.record.proofs.Reading.{InRange}
-use Rattle.session.specs.Step.{natural, moment}
-use Rattle.delivery.specs.Recording.{TimedRecord, io, window, suspend, Recording, acceptRecord, recordOf, exitRecord, time, inRange, All, Valid}
+use Rattle.session.specs.Step.{natural, moment, acceptRecord, exitRecord}
+use Rattle.session.proofs.Moments.{natural-most, moment-parts, moment-most, window-delay, window-rows, window-cols, exit-time, exit-value, exit-signal}
+use Rattle.delivery.specs.Recording.{TimedRecord, io, window, suspend, Recording, recordOf, time, inRange, All, Valid}
 
 -- ---- what can be stored
 
@@ -43,30 +44,11 @@ pub record Storable (R : Recording) : Type 0 where
 
 -- ---- numbers and moments
 
-within : (hi : ℕ) (z : ℤ) → upTo hi z ≡ true → natural z ≤ hi
-unfolding upTo natural
-within hi (pos n) e = leb-true n hi e
-within hi (negsuc n) e = let z : _≡_ {A = ℕ} 0 1 = cc in absurd (omega arith)
-
 natural-same : (hi : ℕ) (x y : ℤ) → upTo hi x ≡ true → upTo hi y ≡ true → natural x ≡ natural y → x ≡ y
 unfolding upTo natural
 natural-same hi (pos a) (pos b) p q e = ap pos e
 natural-same hi (pos a) (negsuc b) p q e = let z : _≡_ {A = ℕ} 0 1 = cc in absurd (omega arith)
 natural-same hi (negsuc a) y p q e = let z : _≡_ {A = ℕ} 0 1 = cc in absurd (omega arith)
-
-record Parts (t : TimeSpec) : Type 0 where
-  seconds-fit : upTo 4294967295 (t .seconds) ≡ true
-  nanoseconds-fit : upTo 999999999 (t .nanoseconds) ≡ true
-
-parts : (t : TimeSpec) → momentFits t ≡ true → Parts t
-unfolding momentFits dateFits
-parts t e = let p = both-true (upTo 4294967295 (t .seconds)) (upTo 999999999 (t .nanoseconds)) e in record { seconds-fit = p .0; nanoseconds-fit = p .1 }
-
-moment-most : (t : TimeSpec) → momentFits t ≡ true → moment t ≤ limit
-unfolding moment
-moment-most t e =
-    let p = parts t e in
-    omega (arith, within 4294967295 (t .seconds) (p .seconds-fit), within 999999999 (t .nanoseconds) (p .nanoseconds-fit))
 
 digits-apart : (a b c d : ℕ) → b ≤ 999999999 → d ≤ 999999999 → a * second + b ≡ c * second + d → (a ≡ c) × (b ≡ d)
 digits-apart a b c d h k e = (omega arith, omega arith)
@@ -74,12 +56,12 @@ digits-apart a b c d h k e = (omega arith, omega arith)
 moment-same : (t u : TimeSpec) → momentFits t ≡ true → momentFits u ≡ true → moment t ≡ moment u → t ≡ u
 unfolding moment
 moment-same t u e f q =
-    let a = parts t e in
-    let b = parts u f in
+    let a = moment-parts t e in
+    let b = moment-parts u f in
     let s = digits-apart (natural (t .seconds)) (natural (t .nanoseconds)) (natural (u .seconds)) (natural (u .nanoseconds))
-    (within 999999999 (t .nanoseconds) (a .nanoseconds-fit)) (within 999999999 (u .nanoseconds) (b .nanoseconds-fit)) q in
-    let x : t .seconds ≡ u .seconds = natural-same 4294967295 _ _ (a .seconds-fit) (b .seconds-fit) (s .0) in
-    let y : t .nanoseconds ≡ u .nanoseconds = natural-same 999999999 _ _ (a .nanoseconds-fit) (b .nanoseconds-fit) (s .1) in
+    (natural-most 999999999 (t .nanoseconds) (a .1)) (natural-most 999999999 (u .nanoseconds) (b .1)) q in
+    let x : t .seconds ≡ u .seconds = natural-same 4294967295 _ _ (a .0) (b .0) (s .0) in
+    let y : t .nanoseconds ≡ u .nanoseconds = natural-same 999999999 _ _ (a .1) (b .1) (s .1) in
     λ i. record { seconds = x i; nanoseconds = y i }
 
 -- ---- the data
@@ -130,11 +112,8 @@ io-in k i e =
     (leb-true 6 k (q .0), leb-true k 10 (q .1), p .1)
 
 window-in : (w : WindowSize) → inRange (window w) ≡ true → (momentFits (w .delay) ≡ true) × (upTo 65535 (w .rows) ≡ true) × (upTo 65535 (w .cols) ≡ true)
-unfolding inRange windowFits
-window-in w e =
-    let p = both-true (momentFits (w .delay)) (both (upTo 65535 (w .rows)) (upTo 65535 (w .cols))) e in
-    let q = both-true (upTo 65535 (w .rows)) (upTo 65535 (w .cols)) (p .1) in
-    (p .0, q .0, q .1)
+unfolding inRange
+window-in w e = (window-delay w e, window-rows w e, window-cols w e)
 
 suspend-in : (s : Timed) → inRange (suspend s) ≡ true → (momentFits (s .delay) ≡ true) × (both (leb 1 (length (s .contents))) (leb (length (s .contents)) 127) ≡ true)
 unfolding inRange suspendFits sized
@@ -184,15 +163,9 @@ may-follow sum t v h =
 -- ---- the exit
 
 exit-in : (e : Exit) → g.exitFits e ≡ true → (momentFits (e .runTime) ≡ true) × (upTo 255 (e .exitValue) ≡ true) × (length (e .signal) ≤ 127)
-unfolding g.exitFits sized
-exit-in e h =
-    let p = both-true (momentFits (e .runTime)) (both (upTo 255 (e .exitValue)) (sized 0 127 (e .signal))) h in
-    let q = both-true (upTo 255 (e .exitValue)) (sized 0 127 (e .signal)) (p .1) in
-    let r = both-true (leb 0 (length (e .signal))) (leb (length (e .signal)) 127) (q .1) in
-    (p .0, q .0, leb-true (length (e .signal)) 127 (r .1))
+exit-in e h = (exit-time e h, exit-value e h, exit-signal e h)
 
 pub exit-ranged : (e : Exit) → g.exitFits e ≡ true → Small (exitRecord e) → InRange (exitRecord e)
-unfolding exitRecord
 exit-ranged e h s = record { kind-fits = omega arith; delay-fits = moment-most (e .runTime) (exit-in e h .0); contents-fit = s }
 
 low-bits : (b : Bool) (n : ℕ) → n ≤ 127 → (pick b 128 0 + n) % 128 ≡ n
@@ -200,7 +173,7 @@ low-bits true n h = omega arith
 low-bits false n h = omega arith
 
 pub may-end : (e : Exit) → g.exitFits e ≡ true → mayEnd (exitRecord e) [] ≡ true
-unfolding mayEnd exitRecord exitBytes exitDataFits
+unfolding mayEnd exitBytes exitDataFits
 may-end e h =
     let l : length (e .signal) ≤ 127 = exit-in e h .2 in
     let a = length-append (e .signal) (e .error) in
@@ -227,7 +200,7 @@ record-same (window w) (window v) p q e d c =
     let b = window-in v q in
     let x : w .delay ≡ v .delay = moment-same (w .delay) (v .delay) (a .0) (b .0) d in
     let z = window-same (natural (w .rows)) (natural (w .cols)) (natural (v .rows)) (natural (v .cols))
-    (within 65535 (w .rows) (a .1)) (within 65535 (w .cols) (a .2)) (within 65535 (v .rows) (b .1)) (within 65535 (v .cols) (b .2)) c in
+    (natural-most 65535 (w .rows) (a .1)) (natural-most 65535 (w .cols) (a .2)) (natural-most 65535 (v .rows) (b .1)) (natural-most 65535 (v .cols) (b .2)) c in
     let r : w .rows ≡ v .rows = natural-same 65535 (w .rows) (v .rows) (a .1) (b .1) (z .0) in
     let s : w .cols ≡ v .cols = natural-same 65535 (w .cols) (v .cols) (a .2) (b .2) (z .1) in
     λ y. window (record { delay = x y; rows = r y; cols = s y })
@@ -241,7 +214,6 @@ same-timed t u v w e =
     record-same t u (v .in-range) (w .in-range) (ap (λ (r : Record). r .kind) e) (ap (λ (r : Record). r .delay) e) (ap (λ (r : Record). r .contents) e)
 
 pub same-exit : (a b : Exit) → g.exitFits a ≡ true → g.exitFits b ≡ true → exitRecord a ≡ exitRecord b → a ≡ b
-unfolding exitRecord
 same-exit a b p q e =
     let f = exit-in a p in
     let h = exit-in b q in

@@ -11,10 +11,10 @@ use Rattle.fields.specs.Items.{items}
 use Rattle.message.specs.Message as m
 use Rattle.message.specs.Message.{Bytes, Timed, WindowSize, Exit}
 use Rattle.range.specs.Range.{acceptFits, exitFits, ioFits, windowFits, suspendFits}
-use Rattle.record.specs.Record.{Record, windowBytes, exitBytes}
+use Rattle.record.specs.Record.{Record}
 use Rattle.record.specs.File.{limit, timeOf, total}
 use Rattle.required.specs.Required.{entriesRefusal}
-use Rattle.session.specs.Step.{natural, moment}
+use Rattle.session.specs.Step.{acceptRecord, ioRecord, windowRecord, suspendRecord, exitRecord}
 
 -- a timed record's values: an I/O buffer of the kind 6 to 10, a window size, a suspend
 pub data TimedRecord : Type 0 where
@@ -28,21 +28,12 @@ pub record Recording : Type 0 where
   pub timed : List TimedRecord
   pub exit : Exit
 
--- ---- its records. Document 01, "Stored records".
+-- ---- its records: those that a session stores
 
--- "1 accept: delay zero, data is the AcceptMessage as received."
-unfoldable pub acceptRecord : Bytes → Record
-acceptRecord d = record { kind = 1; delay = 0; contents = d }
-
--- "6 to 10: the I/O bytes. 11: rows then cols, 16 bits each. 12: the signal name."
 unfoldable pub recordOf : TimedRecord → Record
-recordOf (io k i) = record { kind = k; delay = moment (i .delay); contents = i .contents }
-recordOf (window w) = record { kind = 11; delay = moment (w .delay); contents = windowBytes (natural (w .rows)) (natural (w .cols)) }
-recordOf (suspend s) = record { kind = 12; delay = moment (s .delay); contents = s .contents }
-
--- "3 exit: run_time in the delay's place; data is exit_value .., dumped_core .., signal length .., signal, error."
-unfoldable pub exitRecord : Exit → Record
-exitRecord e = record { kind = 3; delay = moment (e .runTime); contents = exitBytes (natural (e .exitValue)) (e .dumpedCore) (e .signal) (e .error) }
+recordOf (io k i) = ioRecord k i
+recordOf (window w) = windowRecord w
+recordOf (suspend s) = suspendRecord s
 
 -- the accept "Always first, once", the exit "Always last"
 unfoldable pub records : Recording → List Record

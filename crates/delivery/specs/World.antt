@@ -88,7 +88,7 @@ Fresh w none a = w .used a ≡ 0
 unfoldable pub opened : World → List Bytes → ℕ → World
 opened w bodies a =
     withConnection w (w .latest) (w .stopped) (w .part)
-    (some (record { area = areaOf (w .latest) a; session = session.opened; line = frames bodies; out = [] }))
+    (some (record { area = areaOf (w .latest) a; session = session.newSession; line = frames bodies; out = [] }))
 
 -- ---- "Bytes are the next of these, any number"
 

@@ -3,7 +3,7 @@ use Prim.Native.Nat.{ℕ, _+_}
 use mathlib.Core.List.{List, []}
 use lib.Dec.{ltb}
 use Rattle.laws.specs.Base.{pick, part}
-use Rattle.session.specs.Step.{Outcome, step, opened}
+use Rattle.session.specs.Step.{Outcome, newSession, step}
 use Rattle.names.specs.Names.{memberOf}
 use Rattle.wording.specs.Wording.{frameLine}
 use Rattle.ending.specs.Ending.{endLine}
@@ -21,7 +21,7 @@ pub record Turned : Type 0 where
   pub area : List ℕ
 
 abbrev pub started : Replay
-started = record { session = opened; used = 0; frames = 0 }
+started = record { session = newSession; used = 0; frames = 0 }
 
 -- frames are counted up to the greatest number of 64 bits
 unfoldable pub counted : ℕ → ℕ

@@ -6,7 +6,7 @@ use Rattle.saved.proofs.Numbers.{back, forty, other}
 
 pub keeping : Keeping
 keeping = record {
-  opened-sound = record { used = omega arith; total = omega arith; low = omega arith; mark = tt };
+  new-sound = record { used = omega arith; total = omega arith; low = omega arith; mark = tt };
   step-sound = λ se h area used s. step-sound se h area used s;
   back = back;
   forty = forty;

@@ -5,16 +5,13 @@ use mathlib.Core.Path.{_≡_, refl}
 use mathlib.Core.Bool.{Bool, true}
 use mathlib.Core.List.{List}
 use mathlib.Core.Logic.{⊎-elim}
-use lib.IntN.{ℤ, pos, negsuc}
 use lib.ListN.{length, take}
 use lib.Seq.{length-take-le}
 use lib.Dec.{leb, eqb}
-use borrow.Author.Tests.{leb-true}
-use Rattle.laws.specs.Base.{both}
+use borrow.Author.Tests.{leb-true, eqb-true}
 use Rattle.laws.proofs.Order.{picked, both-true, lt-or-le}
 use Rattle.fields.specs.Items.{items, lastItem, bytesOf}
-use Rattle.message.specs.Message.{Bytes, TimeSpec, Accept, Exit, Restart, Client, acceptMsg, rejectMsg, exitMsg, restartMsg, alertMsg, ioBuf, winsizeEvent, suspendEvent, helloMsg}
-use Rattle.limits.specs.Limits.{upTo, dateFits, momentFits}
+use Rattle.message.specs.Message.{Bytes, Accept, Exit, Restart, Client, acceptMsg, rejectMsg, exitMsg, restartMsg, alertMsg, ioBuf, winsizeEvent, suspendEvent, helloMsg}
 use Rattle.range.specs.Range.{acceptFits, reportFits, exitFits, restartFits, ioFits, windowFits, suspendFits}
 use Rattle.wire.specs.Read.{Reading, value, refused, clientMessage}
 use Rattle.record.specs.Record.{Record, recordBytes}
@@ -22,27 +19,16 @@ use Rattle.record.specs.File.{limit, Records, all, none, recordsOf, fileBytes, 
 use Rattle.record.proofs.Beginnings.{low-found, low-none}
 use Rattle.record.proofs.Restarts.{keep-total}
 use Rattle.session.specs.State.{Turn, to, notNow, turn}
-use Rattle.session.specs.Step.{Outcome, natural, moment, inState, refuse, lengthsFit, roomFor, atMark, grown, timed, entriesFirst, acceptStored, onAccept, onReject, exitStored, onExit, resumed, byKind, ofRecords, onRestart, act, inTurn, onReading, step}
-use Rattle.session.proofs.Moments.{point-fits}
+use Rattle.session.specs.Step.{Outcome, moment, acceptRecord, inState, grown, withinArea, lengthsFit, growthRefusal, refuse, roomFor, timed, entriesFirst, acceptStored, onAccept, onReject, exitStored, onExit, resumed, byKind, ofRecords, onRestart, act, inTurn, onReading, step}
+use Rattle.session.proofs.Moments.{moment-most, point-fits}
+use Rattle.session.proofs.Lengths.{within-area, lengths}
+use Rattle.session.proofs.Timed.{growth-fits}
 use Rattle.session.specs.declared.State.{State}
 use Rattle.session.specs.declared.State.the-variants.{New, Greeted, Logging, EventsOnly, Closed}
 use Rattle.session.specs.declared.Session.{Session}
 use Rattle.session.specs.declared.Mark.the-variants as mark
 use Rattle.saved.specs.Sound.{MarkSound, Sound}
 use Rattle.saved.proofs.Files.{kept-within}
-
--- ---- a moment in its range
-
-natural-most : (most : ℕ) (n : ℤ) → upTo most n ≡ true → natural n ≤ most
-unfolding upTo natural
-natural-most most (pos n) e = leb-true n most e
-natural-most most (negsuc n) e = omega arith
-
-pub moment-most : (t : TimeSpec) → momentFits t ≡ true → moment t ≤ limit
-unfolding momentFits dateFits moment
-moment-most t e =
-    let p = both-true (upTo 4294967295 (t .seconds)) (upTo 999999999 (t .nanoseconds)) e in
-    omega (arith, natural-most 4294967295 (t .seconds) (p .0), natural-most 999999999 (t .nanoseconds) (p .1))
 
 -- ---- a restart's numbers
 
@@ -59,20 +45,14 @@ low-most rs =
 abbrev After : Outcome → Type 0
 After o = Sound (o .session)
 
-module _ (se : Session) (area : Bytes) (used want : ℕ) (fits : lengthsFit se area used want ≡ true) where
-  area-fits : (length area ≤ 1073741824) × (used ≤ length area)
-  unfolding lengthsFit
-  area-fits =
-      let a = both-true (leb (length area) 1073741824) (both (leb used (length area)) (eqb used want)) fits in
-      let b = both-true (leb used (length area)) (eqb used want) (a .1) in
-      (leb-true (length area) 1073741824 (a .0), leb-true used (length area) (b .0))
-
-  -- a stored record ends within the area
-  end-fits : (r : Record) → roomFor se area used r ≡ true → used + length (recordBytes r) ≤ 1073741824
-  unfolding roomFor
-  end-fits r e =
-      let b = both-true (leb (length (r .contents)) 2097152) (leb (length (recordBytes r)) (length area - used)) e in
-      omega (arith, area-fits .0, area-fits .1, leb-true (length (recordBytes r)) (length area - used) (b .1))
+-- a stored record ends within the area
+end-fits : (se : Session) (area : Bytes) (used want : ℕ) → lengthsFit (length area) used want ≡ true
+    → (r : Record) → roomFor se area used r ≡ true → used + length (recordBytes r) ≤ 1073741824
+unfolding roomFor
+end-fits se area used want l r e =
+    let a = within-area (length area) used (lengths (length area) used want l .0) in
+    let b = both-true (leb (length (r .contents)) 2097152) (leb (length (recordBytes r)) (length area - used)) e in
+    omega (arith, a .0, a .1, leb-true (length (recordBytes r)) (length area - used) (b .1))
 
 module _ (se : Session) (h : Sound se) (area : Bytes) (used : ℕ) where
   in-state : (st : State) → Sound (inState se st)
@@ -82,8 +62,8 @@ module _ (se : Session) (h : Sound se) (area : Bytes) (used : ℕ) where
   refused-sound n k = in-state Closed
 
   -- a timed record that has room
-  grown-sound : (r : Record) → lengthsFit se area used (se .used) ≡ true → roomFor se area used r ≡ true → se .total + r .delay ≤ limit
-      → Sound (grown se area used r)
+  grown-sound : (r : Record) → lengthsFit (length area) used (se .used) ≡ true → roomFor se area used r ≡ true → se .total + r .delay ≤ limit
+      → Sound (grown se (used + length (recordBytes r)) (r .delay))
   grown-sound r l m t = record {
     used = end-fits se area used (se .used) l r m;
     total = t;
@@ -94,16 +74,16 @@ module _ (se : Session) (h : Sound se) (area : Bytes) (used : ℕ) where
   timed-sound : (fits : Bool) (r : Record) → After (timed se area used fits r)
   unfolding timed
   timed-sound fits r =
-      picked After (lengthsFit se area used (se .used)) _ _
+      picked After (lengthsFit (length area) used (se .used)) _ _
       (λ l.
       picked After fits _ _
       (λ _.
-      picked After (leb (se .total + r .delay) limit) _ _
-      (λ t.
-      picked After (both (eqb (r .delay) 0) (atMark se area used (se .mark))) _ _ (λ _. refused-sound 11 0)
-      (λ _.
-      picked After (roomFor se area used r) _ _ (λ m. grown-sound r l m (leb-true (se .total + r .delay) limit t)) (λ _. refused-sound 12 0)))
-      (λ _. refused-sound 10 0))
+      picked After (eqb (growthRefusal se (r .delay)) 0) _ _
+      (λ n.
+      picked After (roomFor se area used r) _ _
+      (λ m. grown-sound r l m (growth-fits se (r .delay) (eqb-true (growthRefusal se (r .delay)) 0 n)))
+      (λ _. refused-sound 12 0))
+      (λ _. refused-sound (growthRefusal se (r .delay)) 0))
       (λ _. refused-sound 7 0))
       (λ _. refused-sound 15 0)
 
@@ -111,25 +91,24 @@ module _ (se : Session) (h : Sound se) (area : Bytes) (used : ℕ) where
   unfolding entriesFirst
   entries-sound fits r k next a = picked After fits _ _ (λ _. picked After (eqb r 0) _ _ (λ _. a) (λ _. refused-sound r k)) (λ _. refused-sound 7 0)
 
-  stored-sound : (d : Bytes) → lengthsFit se area used 0 ≡ true → After (acceptStored se area used d)
+  stored-sound : (d : Bytes) → lengthsFit (length area) used 0 ≡ true → After (acceptStored se area used d)
   unfolding acceptStored
   stored-sound d l =
-      let r : Record = record { kind = 1; delay = 0; contents = d } in
-      picked After (roomFor se area used r) _ _
-      (λ m. record { used = end-fits se area used 0 l r m; total = omega arith; low = omega arith; mark = tt })
+      picked After (roomFor se area used (acceptRecord d)) _ _
+      (λ m. record { used = end-fits se area used 0 l (acceptRecord d) m; total = omega arith; low = omega arith; mark = tt })
       (λ _. refused-sound 12 0)
 
   accept-sound : (st : State) (d : Bytes) (a : Accept) → After (onAccept se area used st d a)
   unfolding onAccept
   accept-sound st d a =
       picked After (a .expectIobufs) _ _
-      (λ _. picked After (lengthsFit se area used 0) _ _ (λ l. entries-sound (acceptFits a) _ _ _ (stored-sound d l)) (λ _. refused-sound 15 0))
+      (λ _. picked After (lengthsFit (length area) used 0) _ _ (λ l. entries-sound (acceptFits a) _ _ _ (stored-sound d l)) (λ _. refused-sound 15 0))
       (λ _. entries-sound (acceptFits a) _ _ _ (in-state st))
 
   exit-stored-sound : (e : Exit) → After (exitStored se area used e)
   unfolding exitStored
   exit-stored-sound e =
-      picked After (lengthsFit se area used (se .used)) _ _
+      picked After (lengthsFit (length area) used (se .used)) _ _
       (λ l.
       picked After (exitFits e) _ _
       (λ _.
@@ -170,13 +149,13 @@ module _ (se : Session) (h : Sound se) (area : Bytes) (used : ℕ) where
   restart-sound : (r : Restart) → After (onRestart se area used r)
   unfolding onRestart
   restart-sound r =
-      picked After (lengthsFit se area used used) _ _
+      picked After (withinArea (length area) used) _ _
       (λ l.
       picked After (restartFits r) _ _
       (λ f.
       records-sound (moment (r .resumePoint)) (recordsOf (take used area)) (moment-most (r .resumePoint) (point-fits r f))
       (λ qs e.
-      let a = area-fits se area used used l in
+      let a = within-area (length area) used l in
       omega (arith, a .0, a .1, kept-within (take used area) (moment (r .resumePoint)) qs e, length-take-le used area (a .1))))
       (λ _. refused-sound 7 0))
       (λ _. refused-sound 15 0)

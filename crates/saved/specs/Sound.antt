@@ -5,7 +5,7 @@ use mathlib.Core.List.{List}
 use mathlib.Core.Logic.{_⊎_}
 use lib.ListN.{length, getD}
 use Rattle.record.specs.File.{limit}
-use Rattle.session.specs.Step.{opened, step}
+use Rattle.session.specs.Step.{newSession, step}
 use Rattle.session.specs.declared.Session.{Session}
 use Rattle.session.specs.declared.Mark.{Mark}
 use Rattle.session.specs.declared.Mark.the-variants as mark
@@ -24,7 +24,7 @@ pub record Sound (se : Session) : Type 0 where
 
 pub record Keeping : Type 0 where
   -- every session that a host can come to is sound
-  pub opened-sound : Sound opened
+  pub new-sound : Sound newSession
   pub step-sound : (se : Session) → Sound se → (area : List ℕ) (used : ℕ) (s : List ℕ) → Sound (step se area used s .session)
   -- such a session reads back from its bytes, which are 40
   pub back : (se : Session) → Sound se → sessionOf (sessionBytes se) ≡ se

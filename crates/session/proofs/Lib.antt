@@ -1,5 +1,6 @@
 pub mod Turns
 pub mod Moments
+pub mod Lengths
 pub mod Timed
 pub mod Stores
 pub mod Examples

@@ -7,7 +7,7 @@ use Rattle.laws.specs.Base.{part}
 use Rattle.message.specs.Message.{Bytes}
 use Rattle.wire.specs.Examples.{ReadingExamples}
 use Rattle.record.specs.Record.{Record, recordBytes}
-use Rattle.session.specs.Step.{Outcome, step, tick, opened}
+use Rattle.session.specs.Step.{Outcome, newSession, step, tick}
 use Rattle.session.specs.declared.Point.{Point}
 use Rattle.session.specs.declared.Point.the-variants as point
 
@@ -43,11 +43,11 @@ next o s = step (o .session) (o .area) (o .used) s
 
 -- what a new session's first message gives, over the area as it was left
 abbrev pub anew : Outcome → Bytes → Outcome
-anew o s = step opened (o .area) (o .used) s
+anew o s = step newSession (o .area) (o .used) s
 
 -- the accept in a fresh area, then delays of 1, 0, 0 and 2 s
 abbrev pub accepted : Outcome
-accepted = step opened (replicate 160 0) 0 accept
+accepted = step newSession (replicate 160 0) 0 accept
 
 abbrev pub first : Outcome
 first = next accepted (ttyout 1)
@@ -62,8 +62,8 @@ abbrev pub fourth : Outcome
 fourth = next third (ttyout 2)
 
 -- a restart of that unfinished file at 1 s
-abbrev pub resumed : Outcome
-resumed = anew fourth (restart 1)
+abbrev pub restarted : Outcome
+restarted = anew fourth (restart 1)
 
 pub record Examples : Type 0 where
   -- 1, 2, 4, 5, 6
@@ -84,13 +84,13 @@ pub record Examples : Type 0 where
   pub seven-exit : next fourth exit .point ≡ point.At 3000000000
   -- a restart at 1 keeps three timed records, of 13 bytes each after the accept's 71; at 2 it is refused
   pub eight-third : third .used ≡ 110
-  pub eight-taken : resumed .refusal ≡ 0
-  pub eight-kept : resumed .used ≡ 110
+  pub eight-taken : restarted .refusal ≡ 0
+  pub eight-kept : restarted .used ≡ 110
   pub eight-refused : anew fourth (restart 2) .refusal ≡ 14
   -- after the restart at 1
-  pub nine-zero : next resumed (ttyout 0) .refusal ≡ 11
-  pub nine-taken : next resumed (ttyout 2) .refusal ≡ 0
-  pub nine-used : next resumed (ttyout 2) .used ≡ 123
+  pub nine-zero : next restarted (ttyout 0) .refusal ≡ 11
+  pub nine-taken : next restarted (ttyout 2) .refusal ≡ 0
+  pub nine-used : next restarted (ttyout 2) .used ≡ 123
   -- no timed records
   pub ten-tick : tick (accepted .session) ≡ point.Absent
   pub ten-exit : next accepted exit .point ≡ point.At 0

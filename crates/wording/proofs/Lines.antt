@@ -9,7 +9,7 @@ use lib.Dec.{leb}
 use borrow.Author.Tests.{le-leb, lt-leb}
 use Rattle.pieces.specs.Put.{Put}
 use Rattle.pieces.proofs.Puts.{nothing}
-use Rattle.session.specs.Answer.{outcome}
+use Rattle.session.specs.Step.{outcome}
 use Rattle.session.specs.declared.Answer.{Answer}
 use Rattle.wording.specs.Wording.{frameLine, written, lineLength}
 

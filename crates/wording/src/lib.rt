@@ -13,7 +13,7 @@ ghost use mathlib.Core.List.{[]};
 ghost use Prim.Native.Nat.{_+_, _≤_};
 ghost use lib.ListN.{length};
 ghost use Rattle.pieces.specs.Put.{Put};
-ghost use Rattle.session.specs.Answer.{outcome};
+ghost use Rattle.session.specs.Step.{outcome};
 ghost use Rattle.names.specs.Names.{memberOf};
 ghost use Rattle.wording.specs.Wording.{heading, verdict, standing, pointText, keyText, frameLine, written, lineLength};
 

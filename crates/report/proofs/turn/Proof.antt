@@ -1,8 +1,7 @@
-use Rattle.session.specs.Answer.{outcome}
 use Rattle.names.specs.Names.{memberOf}
 use Rattle.wording.specs.Wording.{frameLine, written, lineLength}
 use Rattle.report.specs.Turn.{answered, counted}
-use Rattle.session.specs.Step.{Outcome}
+use Rattle.session.specs.Step.{Outcome, outcome}
 use Rattle.laws.specs.Base.{part}
 use mathlib.Core.List.{List, []}
 use mathlib.Core.Path.{_≡_}
