@@ -1,15 +1,14 @@
 -- Laws of `varintFrom`: what it gives by the tests, and how far it reads.
 use Prim.Native.Nat.{ℕ, zero, suc, _+_, _-_, _*_, _^_, _≤_, _<_}
 use native.Mathlib.Omega.{arith}
-use native.Mathlib.Numerals.{sub-one}
 use native.Mathlib.Nat.{le-trans}
 use mathlib.Core.Path.{_≡_, refl, sym, subst, _∙_}
 use mathlib.Core.List.{List}
 use mathlib.Core.Logic.{_⊎_, inl, inr, ⊎-elim}
 use mathlib.Core.Bool.{Bool, true, false}
 use lib.ListN.{length, getD}
-use lib.Dec.{ltb, leb, lit≤}
-use borrow.Author.Tests.{lt-ltb, le-ltb, le-leb, lt-leb, ltb-true, ltb-false, leb-true, leb-false}
+use lib.Dec.{ltb, lit≤}
+use borrow.Author.Tests.{lt-ltb, le-ltb, le-leb, lt-leb, ltb-true, ltb-false}
 use Rattle.field.specs.Varint.{varintFrom, varintAt, above}
 use Rattle.field.specs.declared.varint.Varint.{Varint}
 use Rattle.field.specs.declared.varint.Varint.the-variants.{Value, PastEnd, TooLong}
@@ -64,9 +63,6 @@ up : (d k : ℕ) → k + d ≡ 8 → lim k ≤ 2 ^ 57
 unfolding lim
 up zero k e = let f : k ≡ 8 = omega arith in rw f (lit≤ tt)
 up (suc d) k e = le-trans (omega (arith, lim-pos k)) (up d (suc k) (omega arith))
-
-pub lim-8 : (k : ℕ) → k ≤ 8 → lim k ≤ 2 ^ 57
-lim-8 k h = up (8 - k) k (omega arith)
 
 -- a value was read within the list, past `at`, and is below the limit
 abbrev pub Within : List ℕ → ℕ → ℕ → Varint → Type 0

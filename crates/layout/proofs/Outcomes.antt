@@ -1,13 +1,13 @@
 -- What a writer answers and leaves, case by case. Assumes nothing.
-use mathlib.Core.Path.{_≡_, refl, sym, ap, subst, _∙_}
-use Prim.Native.Nat.{ℕ, _+_, _≤_, _<_}
+use mathlib.Core.Path.{_≡_, refl, sym, ap, _∙_}
+use Prim.Native.Nat.{ℕ, _+_, _≤_}
 use native.Mathlib.Omega.{arith}
 use mathlib.Core.List.{List, [], _∷_, _++_, append-nil}
 use mathlib.Core.Bool.{Bool, true, false}
 use lib.ListN.{length, length-append}
 use lib.Dec.{ltb, eqb}
 use borrow.Author.Tests.{lt-ltb, ltb-false, eq-eqb, ne-eqb}
-use Rattle.laws.specs.Base.{pick, splice}
+use Rattle.laws.specs.Base.{pick}
 use Rattle.written.specs.Pieces.{Piece, bytes, head, encode, encodeAll, front}
 use Rattle.written.specs.Draft.{wrapped}
 use Rattle.written.specs.Outcome.{roomRefusal, refusal, size, buffer}
@@ -43,16 +43,6 @@ same-note f ps d h e =
 module _ (f : ℕ) (ps : List Piece) {n : ℕ} where
   pub like-wrapped : {k : ℕ} → Like n (encodeAll ps) → k ≡ length (cover f n) → Like (k + n) (wrapped f ps)
   like-wrapped h e = rw (wrapped-around f ps) (like-around f h e)
-
-  pub length-wrapped : n ≡ length (encodeAll ps) → length (wrapped f ps) ≡ length (cover f n) + n
-  unfolding around
-  length-wrapped e =
-      omega (
-        arith,
-        ap length (wrapped-around f ps),
-        length-append (cover f (length (encodeAll ps))) (encodeAll ps),
-        ap (λ (x : ℕ). length (cover f x)) e,
-      )
 
   pub put-wrapped : {s s₁ s₂ : List ℕ} {at a b : ℕ} → n ≡ length (encodeAll ps) → Put s at (cover f n) s₁ a
       → Put s₁ a (encodeAll ps) s₂ b → Put s at (wrapped f ps) s₂ b

@@ -23,11 +23,6 @@ back v h =
     joined v (v / 256) (v / 65536) (v / 16777216) (v / 4294967296) (v / 1099511627776) (v / 281474976710656) (v / 72057594037927936) _ _ _ _ _ _ _ _
     (omega arith) (omega arith) (omega arith) (omega arith) (omega arith) (omega arith) (omega arith) (omega arith)
 
--- a number reads back from its bytes
-pub eight-back : (v : ℕ) → v < 18446744073709551616 → numberAt (eight v) 0 ≡ v
-unfolding numberAt
-eight-back v h = back v h
-
 -- and each of five numbers
 module _ (a b c d e : ℕ) where
   abbrev five : List ℕ
