@@ -5,8 +5,8 @@ use mathlib.Core.Path.{_≡_, refl, sym, subst, _∙_}
 use mathlib.Core.List.{List}
 use mathlib.Core.Bool.{Bool, true, false}
 use lib.ListN.{length, getD}
-use lib.Dec.{T, leb, eqb, eqb→eq}
-use borrow.Author.Tests.{le-leb, lt-leb, eq-eqb}
+use lib.Dec.{T, ltb, leb, eqb, eqb→eq}
+use borrow.Author.Tests.{le-leb, lt-leb, eq-eqb, ltb-true, leb-true, eqb-true}
 use Rattle.laws.specs.Base.{pick, both, part}
 use Rattle.field.specs.Varint.{varintAt}
 use Rattle.schema.specs.Schema.{kindOf, takes, schema}
@@ -14,16 +14,19 @@ use Rattle.field.specs.Field.{tagFits, tagOf, tagAt, partOf, payloadAt}
 use Rattle.field.specs.declared.varint.Varint.{Varint}
 use Rattle.field.specs.declared.varint.Varint.the-variants.{Value}
 use Rattle.field.specs.declared.tag.Tag.the-variants as tag
+use Rattle.field.specs.declared.payload.Payload.{Payload}
+use Rattle.field.specs.declared.payload.Payload.the-variants as payload
 use Rattle.field.specs.declared.payload.Payload.the-variants.{Part}
 use Rattle.fields.specs.declared.Found.{Found}
 use Rattle.fields.specs.declared.Found.the-variants as found
+use Rattle.laws.proofs.Order.{both-true}
 use Rattle.laws.proofs.Parts.{length-part}
 use Rattle.field.proofs.Varints as varints
 use Rattle.schema.proofs.Rows.{kinds}
 use Rattle.encoding.proofs.Walk.{lies, tag-is}
 use Rattle.walk.specs.Places.{timeSpecOf, ioBufferOf}
 use Rattle.client_walk.specs.Client.{clientOf}
-use Rattle.plain.specs.Plain.{HasTag, Finds, Ends, TimeSaid, Tailed, IoSaid, IoTag, ClientSaid, withData}
+use Rattle.plain.specs.Plain.{byteIs, foundOf, isIo, HasTag, Ends, TimeSaid, Tailed, IoSaid, IoTag, ClientSaid, withData}
 use Rattle.plain.specs.declared.Ending.{Ending}
 use Rattle.plain.specs.declared.Ending.the-variants as ending
 use Rattle.plain.specs.declared.PlainTime.{PlainTime}
@@ -42,6 +45,20 @@ use Rattle.client_walk.proofs.Clients as clients
 -- a byte below 128 is a tag of one byte
 pub one-byte : (s : List ℕ) (at t : ℕ) → at < length s → t ≡ getD s at 0 → t < 128 → HasTag s at t
 one-byte s at t i e l = record { within = i; tagged = varints.one-byte s at t i (sym e) l }
+
+-- and so is the byte that was asked for
+pub tag-there : (s : List ℕ) (at t : ℕ) → byteIs s at t ≡ true → t < 128 → HasTag s at t
+unfolding byteIs
+tag-there s at t e l =
+    let h = both-true (ltb at (length s)) (eqb (getD s at 0) t) e in
+    one-byte s at t (ltb-true at (length s) (h .0)) (sym (eqb-true (getD s at 0) t (h .1))) l
+
+pub io-tag : (t : ℕ) → isIo t ≡ true → IoTag t
+unfolding isIo
+io-tag t e =
+    let h = both-true (leb 50 t) (both (leb t 82) (eqb (t % 8) 2)) e in
+    let k = both-true (leb t 82) (eqb (t % 8) 2) (h .1) in
+    record { least = leb-true 50 t (h .0); most = leb-true t 82 (k .0); bytes = eqb-true (t % 8) 2 (k .1) }
 
 -- ---- the delay
 
@@ -69,9 +86,23 @@ seconds-nanos s k v n e r h w q =
 
 -- ---- the buffer
 
-pub found-part : (s : List ℕ) (at : ℕ) (r : Found) → Finds s at r → (a b : ℕ) → r ≡ found.Part a b → partOf s at (varintAt s at) ≡ Part a b
+module _ (q : Payload) where
+  -- what is found is the part that was read
+  Finds : Found → Type 0
+  Finds (found.Part a e) = q ≡ Part a e
+  Finds found.Nothing = Unit
+
+finds : (q : Payload) → Finds q (foundOf q)
+unfolding foundOf Finds
+finds (payload.Number v n) = tt
+finds (payload.Fixed n) = tt
+finds (payload.Part a e) = refl
+finds (payload.Refused r p) = tt
+
+pub found-part : (s : List ℕ) (at : ℕ) (r : Found) → r ≡ foundOf (partOf s at (varintAt s at)) → (a b : ℕ) → r ≡ found.Part a b
+    → partOf s at (varintAt s at) ≡ Part a b
 unfolding Finds
-found-part s at r h a b e = subst (Finds s at) e h
+found-part s at r h a b e = let q : Payload = partOf s at (varintAt s at) in subst (Finds q) (sym h ∙ e) (finds q)
 
 data-behind : (s : List ℕ) (b x y : ℕ) → ios.Walked s b x y 0 0 → (r : Tail) → Tailed s b r → IoSaid s (withData x y r)
 unfolding Tailed IoSaid withData

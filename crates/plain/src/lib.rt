@@ -9,18 +9,16 @@ use field::varint::varint_at;
 use fields::Found;
 use laws::wide;
 ghost use mathlib.Core.Path.{_≡_};
-ghost use mathlib.Core.Bool.{true};
-ghost use Prim.Native.Nat.{_<_};
 ghost use lib.ListN.{length};
 ghost use Rattle.field.specs.Varint.{varintAt};
 ghost use Rattle.field.specs.Field.{partOf};
 ghost use Rattle.field.specs.declared.payload.Payload.the-variants.{Part};
 ghost use Rattle.client_walk.specs.Client.{clientOf};
-ghost use Rattle.plain.specs.Plain.{HasTag, Finds, Ends, TimeSaid, Tailed, IoSaid, IoTag, ClientSaid};
+ghost use Rattle.plain.specs.Plain.{byteIs, foundOf, isIo, HasTag, Ends, TimeSaid, Tailed, IoSaid, IoTag, ClientSaid};
 
-// Is the tag at a place this one, in one byte.
+// Is this the byte at a place: a tag of one byte, where it is below 128.
 fn has_tag(s: &[u8], at: usize, tag: u64) -> bool
-    ensures { λ r. ⌜ (r ≡ true → tag < 128 → HasTag (now (s .entry)) at tag) ⌝ }
+    ensures { λ r. ⌜ r ≡ byteIs (now (s .entry)) at tag ⌝ }
 {
     if at < s.len() {
         return wide(s[at]) == tag;
@@ -30,7 +28,7 @@ fn has_tag(s: &[u8], at: usize, tag: u64) -> bool
 
 // A length and its bytes, where they are there.
 fn part_found(s: &[u8], at: usize) -> Found
-    ensures { λ r. ⌜ Finds (now (s .entry)) at r ⌝ }
+    ensures { λ r. ⌜ r ≡ foundOf (partOf (now (s .entry)) at (varintAt (now (s .entry)) at)) ⌝ }
 {
     match part_at(s, at) {
         Payload::Part { start, end } => Found::Part { start, end },
@@ -244,7 +242,7 @@ pub enum PlainClient {
 
 // The tags of the members 6 to 10 in one byte.
 fn is_io(tag: u64) -> bool
-    ensures { λ r. ⌜ (r ≡ true → IoTag tag) ⌝ }
+    ensures { λ r. ⌜ r ≡ isIo tag ⌝ }
 {
     if tag < 50 {
         return false;

@@ -1,7 +1,7 @@
 use native.Mathlib.Omega.{arith}
 use mathlib.Core.Path.{sym, _∙_}
 use Rattle.plain.specs.Plain.{ClientSaid}
-use Rattle.plain.proofs.Plains.{one-byte, found-part}
+use Rattle.plain.proofs.Plains.{io-tag, one-byte, found-part}
 use borrow.Author.Needs.{needs}
 use Rattle.plain.proofs.plain_client.Statement.{statement}
 use Rattle.plain.proofs.plain_client.Tie as tie
@@ -26,7 +26,7 @@ enum-known-start : tie.Need-enum-known-start
 enum-known-start c = search needs
 
 from-member-requires : tie.Need-from-member-requires
-from-member-requires c κs = let i = c .before .before .before .before .before .before .is-io .ensures (c .before .before .before .before .before .if2 .taken) in
+from-member-requires c κs = let i = io-tag _ (sym (c .before .before .before .before .before .before .is-io .ensures) ∙ c .before .before .before .before .before .if2 .taken) in
     ((i, one-byte _ 0 _ (omega (arith, c .before .before .before .before .before .before .before .before .before .if1 .left)) (c .before .before .before .before .before .before .before .wide .ensures) (omega (arith, i .most))), (found-part _ _ _ (c .before .before .before .before .part-found .ensures) _ _ (c .before .before .start .given .1), c .if3 .taken))
 
 returns-2 : tie.Need-returns-2

@@ -7,6 +7,7 @@ use borrow.Author.Needs.{needs}
 use Rattle.field.specs.Field.{tagFits, tagOf}
 use Rattle.message.specs.Signed.{bool}
 use Rattle.summary.specs.Summary.{EntrySeen, Summarised}
+use Rattle.summary.proofs.KeyLaws.{all-are-met}
 use Rattle.summary.proofs.Summaries.{part-lies, number-lies, part-item, number-item, Told, start, flagged, dated, entered, finish}
 use Rattle.summary.proofs.summary_in.Statement.{statement}
 use Rattle.summary.proofs.summary_in.Tie as tie
@@ -239,7 +240,7 @@ all-met-requires : tie.Need-all-met-requires Inv-loop μ-loop
 all-met-requires c κs = search needs
 
 returns-10 : tie.Need-returns-10 Inv-loop μ-loop
-returns-10 c = finish (c .before .before .before .loop .inv) (c .before .before .loop-test .left) (c .before .all-met .ensures (c .if5 .taken))
+returns-10 c = finish (c .before .before .before .loop .inv) (c .before .before .loop-test .left) (all-are-met _ (sym (c .before .all-met .ensures) ∙ c .if5 .taken))
 
 returns-11 : tie.Need-returns-11 Inv-loop μ-loop
 unfolding Summarised
