@@ -8,7 +8,7 @@ ghost use mathlib.Core.Path.{_≡_};
 ghost use mathlib.Core.Bool.{true};
 ghost use Rattle.schema.specs.Schema.{InfoMessage, StringList};
 ghost use Rattle.encoding.specs.Check.{checkOf};
-ghost use Rattle.encoding.specs.Entry.{Keyed, Formed};
+ghost use Rattle.encoding.specs.Entry.{keyEnd, Formed};
 ghost use Rattle.encoding.specs.declared.check.Checked.the-variants.{Fine};
 
 // An entry's key ends at `key`; a value's bytes go from `start` to the end.
@@ -22,7 +22,7 @@ pub enum Plain {
 
 // Where the key ends that the entry begins with; 0 for another form.
 fn key_end(s: &[u8]) -> usize
-    ensures { λ r. ⌜ ((r ≡ 0 → ⊥) → Keyed (now (s .entry)) r) ⌝ }
+    ensures { λ r. ⌜ r ≡ keyEnd (now (s .entry)) ⌝ }
 {
     if s.len() < 2 {
         return 0;

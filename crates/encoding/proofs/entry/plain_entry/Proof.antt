@@ -1,7 +1,7 @@
 use native.Mathlib.Omega.{arith}
 use mathlib.Core.Path.{sym, _∙_}
 use Rattle.encoding.specs.Entry.{Formed}
-use Rattle.encoding.proofs.Entries.{numbered, text, texts, numbers}
+use Rattle.encoding.proofs.Entries.{key-there, numbered, text, texts, numbers}
 use borrow.Author.Needs.{needs}
 use Rattle.encoding.proofs.entry.plain_entry.Statement.{statement}
 use Rattle.encoding.proofs.entry.plain_entry.Tie as tie
@@ -14,13 +14,13 @@ unfolding Formed
 returns c = tt
 
 shared-slice-read-wide : tie.Need-shared-slice-read-wide
-shared-slice-read-wide c = c .before .before .key-end .ensures (c .before .if1 .left) .goes-on
+shared-slice-read-wide c = let k = c .before in key-there _ _ (k .before .key-end .ensures) (k .if1 .left) .goes-on
 
 wide-requires : tie.Need-wide-requires
 wide-requires c κs = search needs
 
 add-number-at : tie.Need-add-number-at
-add-number-at c = let k = c .before .before .before in omega (arith, k .before .key-end .ensures (k .if1 .left) .goes-on)
+add-number-at c = let k = c .before .before .before in omega (arith, key-there _ _ (k .before .key-end .ensures) (k .if1 .left) .goes-on)
 
 number-at-requires : tie.Need-number-at-requires
 number-at-requires c κs = search needs
@@ -33,7 +33,7 @@ returns-2 c = let v = c .before .before in
     let n = v .before .before in
     let w = n .before .before in
     let k = w .before .before in
-    numbered (k .before .before .before .args .s .now) (k .before .key-end .result) (k .before .key-end .ensures (k .if1 .left))
+    numbered (k .before .before .before .args .s .now) (k .before .key-end .result) (key-there _ _ (k .before .key-end .ensures) (k .if1 .left))
     (sym (w .wide .ensures) ∙ n .before .if2 .taken) (v .value .given .0 .0) (v .value .given .0 .1 .0) (sym (n .number-at .ensures) ∙ v .value .given .1) (c .if3 .taken)
 
 returns-3 : tie.Need-returns-3
@@ -62,7 +62,7 @@ unfolding Formed
 returns-6 c = tt
 
 add-part-at : tie.Need-add-part-at
-add-part-at c = let k = c .before .before .before in omega (arith, k .before .key-end .ensures (k .if1 .left) .goes-on)
+add-part-at c = let k = c .before .before .before in omega (arith, key-there _ _ (k .before .key-end .ensures) (k .if1 .left) .goes-on)
 
 part-at-requires : tie.Need-part-at-requires
 part-at-requires c κs = search needs
@@ -76,7 +76,7 @@ returns-7 c = let e = c .before in
     let p = v .before .before in
     let w = p .before .before in
     let k = w .before .before in
-    text (k .before .before .before .args .s .now) (k .before .key-end .result) (k .before .key-end .ensures (k .if1 .left))
+    text (k .before .before .before .args .s .now) (k .before .key-end .result) (key-there _ _ (k .before .key-end .ensures) (k .if1 .left))
     (v .start .given .0 .0) (v .start .given .0 .1 .0) (sym (p .part-at .ensures) ∙ v .start .given .1) (e .if4 .taken) (sym (w .wide .ensures) ∙ c .if5 .taken)
 
 returns-8 : tie.Need-returns-8
@@ -85,7 +85,7 @@ returns-8 c = let e = c .before .before in
     let p = v .before .before in
     let w = p .before .before in
     let k = w .before .before in
-    texts (k .before .before .before .args .s .now) (k .before .key-end .result) (k .before .key-end .ensures (k .if1 .left))
+    texts (k .before .before .before .args .s .now) (k .before .key-end .result) (key-there _ _ (k .before .key-end .ensures) (k .if1 .left))
     (v .start .given .0 .0) (v .start .given .0 .1 .0) (sym (p .part-at .ensures) ∙ v .start .given .1) (e .if4 .taken) (sym (w .wide .ensures) ∙ c .if6 .taken)
 
 returns-9 : tie.Need-returns-9
@@ -94,7 +94,7 @@ returns-9 c = let e = c .before .before .before in
     let p = v .before .before in
     let w = p .before .before in
     let k = w .before .before in
-    numbers (k .before .before .before .args .s .now) (k .before .key-end .result) (k .before .key-end .ensures (k .if1 .left))
+    numbers (k .before .before .before .args .s .now) (k .before .key-end .result) (key-there _ _ (k .before .key-end .ensures) (k .if1 .left))
     (v .start .given .0 .0) (v .start .given .0 .1 .0) (sym (p .part-at .ensures) ∙ v .start .given .1) (e .if4 .taken) (sym (w .wide .ensures) ∙ c .if7 .taken)
 
 enum-told-4 : tie.Need-enum-told-4
