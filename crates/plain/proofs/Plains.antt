@@ -21,7 +21,7 @@ use Rattle.fields.specs.declared.Found.{Found}
 use Rattle.fields.specs.declared.Found.the-variants as found
 use Rattle.laws.proofs.Order.{both-true}
 use Rattle.laws.proofs.Parts.{length-part}
-use Rattle.field.proofs.Varints as varints
+use Rattle.field.proofs.Varints.{one-byte}
 use Rattle.schema.proofs.Rows.{kinds}
 use Rattle.encoding.proofs.Walk.{lies, tag-is}
 use Rattle.walk.specs.Places.{timeSpecOf, ioBufferOf}
@@ -43,15 +43,12 @@ use Rattle.walk.proofs.Ios as ios
 use Rattle.client_walk.proofs.Clients as clients
 
 -- a byte below 128 is a tag of one byte
-pub one-byte : (s : List ℕ) (at t : ℕ) → at < length s → t ≡ getD s at 0 → t < 128 → HasTag s at t
-one-byte s at t i e l = record { within = i; tagged = varints.one-byte s at t i (sym e) l }
-
--- and so is the byte that was asked for
 pub tag-there : (s : List ℕ) (at t : ℕ) → byteIs s at t ≡ true → t < 128 → HasTag s at t
 unfolding byteIs
 tag-there s at t e l =
     let h = both-true (ltb at (length s)) (eqb (getD s at 0) t) e in
-    one-byte s at t (ltb-true at (length s) (h .0)) (sym (eqb-true (getD s at 0) t (h .1))) l
+    let i : at < length s = ltb-true at (length s) (h .0) in
+    record { within = i; tagged = one-byte s at t i (eqb-true (getD s at 0) t (h .1)) l }
 
 pub io-tag : (t : ℕ) → isIo t ≡ true → IoTag t
 unfolding isIo
