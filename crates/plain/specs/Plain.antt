@@ -1,5 +1,8 @@
 -- Short ways: what is said of a TimeSpec, an IoBuffer and a ClientMessage in the form in which clients send them. It is what the
 -- general definitions say; nothing is said of another form.
+-- These are inner definitions: they follow the code, and no sentence of document 01. An auditor can skip them, since the contract of
+-- `client` (crates/plain/src/lib.rt) is the general `clientOf` (crates/client_walk/specs/Client.antt). What proves them against it:
+-- crates/plain/proofs/Plains.antt: `delay-data`, `member-io`.
 use Prim.Native.Nat.{ℕ, _+_, _%_, _≤_, _<_}
 use mathlib.Core.Path.{_≡_}
 use mathlib.Core.List.{List}
