@@ -36,7 +36,7 @@ Formed s (plain.Texts k a) = Reaches s k 4 a × (checkOf StringList (part s a (l
 Formed s (plain.Numbers k a) = Reaches s k 5 a × (checkOf NumberList (part s a (length s)) ≡ Fine → checkOf InfoMessage s ≡ Fine)
 Formed s plain.Other = Unit
 
--- where the key ends that an entry begins with: its tag, a length of one byte and its bytes, and more behind them; 0 for another form
+-- where the key ends that an entry begins with: its tag (0A), a length of one byte, its bytes, and more behind them; 0 for another form
 unfoldable pub keyEnd : List ℕ → ℕ
 keyEnd s =
     pick (both (eqb (getD s 0 0) 10) (both (ltb (getD s 1 0) 128) (ltb (2 + getD s 1 0) (length s)))) (2 + getD s 1 0) 0

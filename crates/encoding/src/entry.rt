@@ -2,7 +2,8 @@
 // short way. What is in another form, damaged entries too, takes the general one.
 use field::payload::Payload;
 use field::payload::number_at;
-use field::payload::part_at;
+use fields::Found;
+use fields::part_found;
 use laws::wide;
 ghost use mathlib.Core.Path.{_≡_};
 ghost use mathlib.Core.Bool.{true};
@@ -72,8 +73,8 @@ pub fn plain_entry(s: &[u8]) -> Plain
             }
         }
     }
-    match part_at(s, key + 1) {
-        Payload::Part { start, end } => {
+    match part_found(s, key + 1) {
+        Found::Part { start, end } => {
             if end == s.len() {
                 if tag == 26 {
                     return Plain::Text { key, start };
@@ -87,12 +88,7 @@ pub fn plain_entry(s: &[u8]) -> Plain
             }
             Plain::Other
         }
-        Payload::Number { value: _, next: _ } => Plain::Other,
-        Payload::Fixed { next: _ } => Plain::Other,
-        Payload::Refused {
-            refusal: _,
-            place: _,
-        } => Plain::Other,
+        Found::Nothing => Plain::Other,
     }
 }
 
@@ -105,20 +101,11 @@ fn plain_strings(s: &[u8]) -> bool
         if s[at] != 10 {
             return false;
         }
-        match part_at(s, at + 1) {
-            Payload::Part { start: _, end } => {
+        match part_found(s, at + 1) {
+            Found::Part { start: _, end } => {
                 at = end;
             }
-            Payload::Number { value: _, next: _ } => {
-                return false;
-            }
-            Payload::Fixed { next: _ } => {
-                return false;
-            }
-            Payload::Refused {
-                refusal: _,
-                place: _,
-            } => {
+            Found::Nothing => {
                 return false;
             }
         }

@@ -14,11 +14,7 @@ use Rattle.field.specs.Field.{tagFits, tagOf, tagAt, partOf, payloadAt}
 use Rattle.field.specs.declared.varint.Varint.{Varint}
 use Rattle.field.specs.declared.varint.Varint.the-variants.{Value}
 use Rattle.field.specs.declared.tag.Tag.the-variants as tag
-use Rattle.field.specs.declared.payload.Payload.{Payload}
-use Rattle.field.specs.declared.payload.Payload.the-variants as payload
 use Rattle.field.specs.declared.payload.Payload.the-variants.{Part}
-use Rattle.fields.specs.declared.Found.{Found}
-use Rattle.fields.specs.declared.Found.the-variants as found
 use Rattle.laws.proofs.Order.{both-true}
 use Rattle.laws.proofs.Parts.{length-part}
 use Rattle.field.proofs.Varints.{one-byte}
@@ -26,7 +22,7 @@ use Rattle.schema.proofs.Rows.{kinds}
 use Rattle.encoding.proofs.Walk.{lies, tag-is}
 use Rattle.walk.specs.Places.{timeSpecOf, ioBufferOf}
 use Rattle.client_walk.specs.Client.{clientOf}
-use Rattle.plain.specs.Plain.{byteIs, foundOf, isIo, HasTag, Ends, TimeSaid, Tailed, IoSaid, IoTag, ClientSaid, withData}
+use Rattle.plain.specs.Plain.{byteIs, isIo, HasTag, Ends, TimeSaid, Tailed, IoSaid, IoTag, ClientSaid, withData}
 use Rattle.plain.specs.declared.Ending.{Ending}
 use Rattle.plain.specs.declared.Ending.the-variants as ending
 use Rattle.plain.specs.declared.PlainTime.{PlainTime}
@@ -82,24 +78,6 @@ seconds-nanos s k v n e r h w q =
     times.finish (times.nano g (l .0 .within) 16 (n + 1) (l .0 .tagged) refl w (length s) (l .1) .1) (omega arith)
 
 -- ---- the buffer
-
-module _ (q : Payload) where
-  -- what is found is the part that was read
-  Finds : Found → Type 0
-  Finds (found.Part a e) = q ≡ Part a e
-  Finds found.Nothing = Unit
-
-finds : (q : Payload) → Finds q (foundOf q)
-unfolding foundOf Finds
-finds (payload.Number v n) = tt
-finds (payload.Fixed n) = tt
-finds (payload.Part a e) = refl
-finds (payload.Refused r p) = tt
-
-pub found-part : (s : List ℕ) (at : ℕ) (r : Found) → r ≡ foundOf (partOf s at (varintAt s at)) → (a b : ℕ) → r ≡ found.Part a b
-    → partOf s at (varintAt s at) ≡ Part a b
-unfolding Finds
-found-part s at r h a b e = let q : Payload = partOf s at (varintAt s at) in subst (Finds q) (sym h ∙ e) (finds q)
 
 data-behind : (s : List ℕ) (b x y : ℕ) → ios.Walked s b x y 0 0 → (r : Tail) → Tailed s b r → IoSaid s (withData x y r)
 unfolding Tailed IoSaid withData

@@ -13,11 +13,7 @@ use Rattle.laws.specs.Base.{both}
 use Rattle.field.specs.Varint.{varintAt}
 use Rattle.field.specs.Field.{partOf}
 use Rattle.field.specs.declared.varint.Varint.the-variants.{Value}
-use Rattle.field.specs.declared.payload.Payload.{Payload}
-use Rattle.field.specs.declared.payload.Payload.the-variants as payload
 use Rattle.field.specs.declared.payload.Payload.the-variants.{Part}
-use Rattle.fields.specs.declared.Found.{Found}
-use Rattle.fields.specs.declared.Found.the-variants as found
 use Rattle.walk.specs.Places.{timeSpecOf, ioBufferOf}
 use Rattle.client_walk.specs.Client.{clientOf}
 use Rattle.walk.specs.declared.time.TimeRead.the-variants as timeread
@@ -42,13 +38,6 @@ pub record HasTag (s : List ℕ) (at t : ℕ) : Type 0 where
 -- is t the byte at a place
 unfoldable pub byteIs : List ℕ → ℕ → ℕ → Bool
 byteIs s at t = both (ltb at (length s)) (eqb (getD s at 0) t)
-
--- the bytes that a length has; nothing where it is refused
-unfoldable pub foundOf : Payload → Found
-foundOf (payload.Number v n) = found.Nothing
-foundOf (payload.Fixed n) = found.Nothing
-foundOf (payload.Part a e) = found.Part a e
-foundOf (payload.Refused r p) = found.Nothing
 
 -- the nanoseconds are at a place, and end the TimeSpec
 unfoldable pub Ends : List ℕ → ℕ → Ending → Type 0

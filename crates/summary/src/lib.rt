@@ -4,7 +4,8 @@ use encoding::entry::Plain;
 use encoding::entry::plain_entry;
 use field::payload::Payload;
 use field::payload::number_at;
-use field::payload::part_at;
+use fields::Found;
+use fields::part_found;
 use laws::wide;
 use message::time_spec_in;
 use required::same;
@@ -196,8 +197,8 @@ pub fn summary_in(s: &[u8]) -> Summary
                 }
             }
         } else {
-            match part_at(s, at + 1) {
-                Payload::Part { start, end } => {
+            match part_found(s, at + 1) {
+                Found::Part { start, end } => {
                     if tag == 18 {
                         match entry_seen(keys, &s[start..end]) {
                             Seen::Fine(k) => {
@@ -218,16 +219,7 @@ pub fn summary_in(s: &[u8]) -> Summary
                         return Summary::Other;
                     }
                 }
-                Payload::Number { value: _, next: _ } => {
-                    return Summary::Other;
-                }
-                Payload::Fixed { next: _ } => {
-                    return Summary::Other;
-                }
-                Payload::Refused {
-                    refusal: _,
-                    place: _,
-                } => {
+                Found::Nothing => {
                     return Summary::Other;
                 }
             }

@@ -4,7 +4,8 @@ use Rattle.plain.specs.Plain.{ClientSaid}
 use Prim.Native.Nat.{_<_}
 use lib.ListN.{length}
 use Rattle.field.proofs.Varints.{one-byte}
-use Rattle.plain.proofs.Plains.{io-tag, found-part}
+use Rattle.fields.proofs.Lengths.{found-part}
+use Rattle.plain.proofs.Plains.{io-tag}
 use borrow.Author.Needs.{needs}
 use Rattle.plain.proofs.plain_client.Statement.{statement}
 use Rattle.plain.proofs.plain_client.Tie as tie

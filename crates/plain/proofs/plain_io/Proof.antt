@@ -1,7 +1,8 @@
 use mathlib.Core.Path.{sym, _∙_}
 use native.Mathlib.Omega.{arith}
 use Rattle.plain.specs.Plain.{IoSaid}
-use Rattle.plain.proofs.Plains.{tag-there, found-part}
+use Rattle.fields.proofs.Lengths.{found-part}
+use Rattle.plain.proofs.Plains.{tag-there}
 use borrow.Author.Needs.{needs}
 use Rattle.plain.proofs.plain_io.Statement.{statement}
 use Rattle.plain.proofs.plain_io.Tie as tie

@@ -1,8 +1,8 @@
 use mathlib.Core.Path.{sym, _∙_}
-use Rattle.plain.specs.Plain.{foundOf}
+use Rattle.fields.specs.Lengths.{foundOf}
 use borrow.Author.Needs.{needs}
-use Rattle.plain.proofs.part_found.Statement.{statement}
-use Rattle.plain.proofs.part_found.Tie as tie
+use Rattle.fields.proofs.part_found.Statement.{statement}
+use Rattle.fields.proofs.part_found.Tie as tie
 
 part-at-requires : tie.Need-part-at-requires
 part-at-requires c κs = search needs
