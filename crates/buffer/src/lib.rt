@@ -1,7 +1,7 @@
 // Copies of bytes into an area that the caller lends.
 use block::copy_block;
 ghost use mathlib.Core.Path.{_≡_};
-ghost use Prim.Native.Nat.{_+_, _≤_};
+ghost use Prim.Native.Nat.{_+_, _*_, _/_, _≤_};
 ghost use lib.ListN.{length, take};
 ghost use Rattle.laws.specs.Base.{splice};
 ghost use Rattle.block.specs.Block.{blockStored};
@@ -58,7 +58,7 @@ fn copy_page(area: &mut [u8], at: usize, bytes: &[u8])
 // Whole pages, and how many bytes they are.
 fn copy_pages(area: &mut [u8], at: usize, bytes: &[u8]) -> usize
     requires { ⌜ at + length (now bytes) ≤ length (now area) ⌝ }
-    ensures count { λ r. ⌜ r ≤ length (now (bytes .entry)) ⌝ }
+    ensures count { λ r. ⌜ r ≡ length (now (bytes .entry)) / 16384 * 16384 ⌝ }
     ensures area { λ r. ⌜ now (area .exit) ≡ splice (now (area .entry)) at (take r (now (bytes .entry))) ⌝ }
 {
     let n = bytes.len();

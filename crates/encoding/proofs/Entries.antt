@@ -4,20 +4,22 @@ use Prim.Native.Nat.{ℕ, _+_, _-_, _≤_, _<_}
 use native.Mathlib.Omega.{arith}
 use mathlib.Core.Path.{_≡_, refl, sym, subst, ap, _∙_}
 use mathlib.Core.List.{List, _∷_}
-use mathlib.Core.Bool.{true, false, true≢false}
+use mathlib.Core.Bool.{Bool, true, false, true≢false}
 use lib.ListN.{length, getD}
-use lib.Dec.{lit≤}
-use borrow.Author.Tests.{le-leb, lt-leb}
-use Rattle.laws.specs.Base.{part}
+use lib.Dec.{lit≤, ltb, eqb}
+use borrow.Author.Tests.{le-leb, lt-leb, le-ltb, ltb-true, eqb-true}
+use Rattle.laws.specs.Base.{pick, both, part}
+use Rattle.laws.proofs.Order.{picked, both-true}
 use Rattle.field.specs.Varint.{varintAt}
 use Rattle.schema.specs.Schema.{kindOf, takes, schema, InfoMessage, StringList}
 use Rattle.field.specs.Field.{tagFits, tagOf, tagAt, numberOf, partOf, payloadAt}
-use Rattle.encoding.specs.Check.{stepOf, checkAt, checkOf}
+use Rattle.encoding.specs.Check.{stepOf, stepAt, checkAt, checkOf}
 use Rattle.fields.specs.Fields.{fieldOf, fieldAt, onField, fieldsAt}
-use Rattle.encoding.specs.Entry.{Keyed, Holds, Reaches, Formed}
+use Rattle.encoding.specs.Entry.{keyEnd, Holds, Reaches, Formed}
 use Rattle.field.specs.declared.varint.Varint.the-variants.{Value}
 use Rattle.field.specs.declared.tag.Tag.the-variants as tag
 use Rattle.field.specs.declared.payload.Payload.the-variants as payload
+use Rattle.encoding.specs.declared.check.Step.the-variants.{Next}
 use Rattle.encoding.specs.declared.check.Checked.{Checked}
 use Rattle.encoding.specs.declared.check.Checked.the-variants as checked
 use Rattle.fields.specs.declared.Field.{Field}
@@ -37,16 +39,49 @@ tagged s at t f w i l b is = tag-is s at (Value t (at + 1)) (one-byte s at t i b
 
 -- ---- the key
 
+-- an entry begins with its key, from 2 to k, and goes on
+pub record Keyed (s : List ℕ) (k : ℕ) : Type 0 where
+  pub steps : stepAt InfoMessage s 0 ≡ Next k
+  pub reads : fieldAt s 0 ≡ field.Part 1 2 k
+  pub starts : 2 ≤ k
+  pub goes-on : k < length s
+
 -- a length of one byte that the list has room for
 key-part : (s : List ℕ) (n : ℕ) → n < 128 → getD s 1 0 ≡ n → 2 + n < length s → partOf s 1 (varintAt s 1) ≡ payload.Part 2 (2 + n)
 unfolding partOf
 key-part s n l b h = let r : n ≤ length s - 2 = omega arith in rw (one-byte s 1 n (omega arith) b l, le-leb _ _ r)
 
-pub keyed : (s : List ℕ) (n : ℕ) → getD s 0 0 ≡ 10 → n < 128 → getD s 1 0 ≡ n → 2 + n < length s → Keyed s (2 + n)
+keyed : (s : List ℕ) (n : ℕ) → getD s 0 0 ≡ 10 → n < 128 → getD s 1 0 ≡ n → 2 + n < length s → Keyed s (2 + n)
 unfolding tagOf tagFits takes kindOf schema payloadAt stepOf fieldOf
 keyed s n t l b h =
     let leads = field-leads InfoMessage s 0 1 2 1 (omega arith) (tagged s 0 10 1 2 (omega arith) (lit≤ tt) t refl) refl (2 + n) (payload.Part 2 (2 + n)) (key-part s n l b h) refl in
     record { steps = leads .steps; reads = leads .reads; starts = omega arith; goes-on = h }
+
+-- the entry begins with its key where it has an end
+pub key-there : (s : List ℕ) (k : ℕ) → k ≡ keyEnd s → (k ≡ 0 → ⊥) → Keyed s k
+unfolding keyEnd
+key-there s k e =
+    let n : ℕ = getD s 1 0 in
+    let t : Bool = both (eqb (getD s 0 0) 10) (both (ltb n 128) (ltb (2 + n) (length s))) in
+    rw e
+    (picked (λ (x : ℕ). (x ≡ 0 → ⊥) → Keyed s x) t (2 + n) 0
+    (λ h.
+    let p = both-true (eqb (getD s 0 0) 10) (both (ltb n 128) (ltb (2 + n) (length s))) h in
+    let q = both-true (ltb n 128) (ltb (2 + n) (length s)) (p .1) in
+    λ _. keyed s n (eqb-true (getD s 0 0) 10 (p .0)) (ltb-true n 128 (q .0)) refl (ltb-true (2 + n) (length s) (q .1)))
+    (λ _ zero. absurd (zero refl)))
+
+-- and it has none where the bytes end with the key, or before
+pub no-value : (s : List ℕ) → length s ≤ 2 + getD s 1 0 → 0 ≡ keyEnd s
+unfolding keyEnd
+no-value s h =
+    let n : ℕ = getD s 1 0 in
+    rw (le-ltb (2 + n) (length s) h) (nothing (eqb (getD s 0 0) 10) (ltb n 128))
+  where
+    nothing : (a b : Bool) → 0 ≡ pick (both a (both b false)) (2 + getD s 1 0) 0
+    nothing true true = refl
+    nothing true false = refl
+    nothing false b = refl
 
 -- ---- the value
 

@@ -1,13 +1,16 @@
 -- The form in which clients send an entry (an InfoMessage): the key, then one value, and nothing else. It has a short way.
-use Prim.Native.Nat.{ℕ, _≤_, _<_}
+-- These are inner definitions: they follow the code, and no sentence of document 01. An auditor can skip them, since the contract of
+-- `check` (crates/encoding/src/check.rt) is the general `checkOf` (crates/encoding/specs/Check.antt). What proves them against it:
+-- crates/encoding/proofs/Entries.antt: `key-there`, `numbered`, `text`, `texts`, `numbers`.
+use Prim.Native.Nat.{ℕ, _+_, _≤_}
 use mathlib.Core.Path.{_≡_}
 use mathlib.Core.List.{List, [], _∷_}
-use lib.ListN.{length}
-use Rattle.laws.specs.Base.{part}
+use lib.ListN.{length, getD}
+use lib.Dec.{ltb, eqb}
+use Rattle.laws.specs.Base.{pick, both, part}
 use Rattle.schema.specs.Schema.{InfoMessage, StringList, NumberList}
-use Rattle.encoding.specs.Check.{stepAt, checkOf}
-use Rattle.fields.specs.Fields.{fieldAt, fieldsOf}
-use Rattle.encoding.specs.declared.check.Step.the-variants.{Next}
+use Rattle.encoding.specs.Check.{checkOf}
+use Rattle.fields.specs.Fields.{fieldsOf}
 use Rattle.encoding.specs.declared.check.Checked.the-variants.{Fine}
 use Rattle.fields.specs.declared.Field.{Field}
 use Rattle.fields.specs.declared.Field.the-variants as field
@@ -33,9 +36,7 @@ Formed s (plain.Texts k a) = Reaches s k 4 a × (checkOf StringList (part s a (l
 Formed s (plain.Numbers k a) = Reaches s k 5 a × (checkOf NumberList (part s a (length s)) ≡ Fine → checkOf InfoMessage s ≡ Fine)
 Formed s plain.Other = Unit
 
--- an entry begins with its key, from 2 to k, and goes on
-pub record Keyed (s : List ℕ) (k : ℕ) : Type 0 where
-  pub steps : stepAt InfoMessage s 0 ≡ Next k
-  pub reads : fieldAt s 0 ≡ field.Part 1 2 k
-  pub starts : 2 ≤ k
-  pub goes-on : k < length s
+-- where the key ends that an entry begins with: its tag (0A), a length of one byte, its bytes, and more behind them; 0 for another form
+unfoldable pub keyEnd : List ℕ → ℕ
+keyEnd s =
+    pick (both (eqb (getD s 0 0) 10) (both (ltb (getD s 1 0) 128) (ltb (2 + getD s 1 0) (length s)))) (2 + getD s 1 0) 0

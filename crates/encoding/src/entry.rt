@@ -2,13 +2,14 @@
 // short way. What is in another form, damaged entries too, takes the general one.
 use field::payload::Payload;
 use field::payload::number_at;
-use field::payload::part_at;
+use fields::Found;
+use fields::part_found;
 use laws::wide;
 ghost use mathlib.Core.Path.{_≡_};
 ghost use mathlib.Core.Bool.{true};
 ghost use Rattle.schema.specs.Schema.{InfoMessage, StringList};
 ghost use Rattle.encoding.specs.Check.{checkOf};
-ghost use Rattle.encoding.specs.Entry.{Keyed, Formed};
+ghost use Rattle.encoding.specs.Entry.{keyEnd, Formed};
 ghost use Rattle.encoding.specs.declared.check.Checked.the-variants.{Fine};
 
 // An entry's key ends at `key`; a value's bytes go from `start` to the end.
@@ -22,7 +23,7 @@ pub enum Plain {
 
 // Where the key ends that the entry begins with; 0 for another form.
 fn key_end(s: &[u8]) -> usize
-    ensures { λ r. ⌜ ((r ≡ 0 → ⊥) → Keyed (now (s .entry)) r) ⌝ }
+    ensures { λ r. ⌜ r ≡ keyEnd (now (s .entry)) ⌝ }
 {
     if s.len() < 2 {
         return 0;
@@ -72,8 +73,8 @@ pub fn plain_entry(s: &[u8]) -> Plain
             }
         }
     }
-    match part_at(s, key + 1) {
-        Payload::Part { start, end } => {
+    match part_found(s, key + 1) {
+        Found::Part { start, end } => {
             if end == s.len() {
                 if tag == 26 {
                     return Plain::Text { key, start };
@@ -87,12 +88,7 @@ pub fn plain_entry(s: &[u8]) -> Plain
             }
             Plain::Other
         }
-        Payload::Number { value: _, next: _ } => Plain::Other,
-        Payload::Fixed { next: _ } => Plain::Other,
-        Payload::Refused {
-            refusal: _,
-            place: _,
-        } => Plain::Other,
+        Found::Nothing => Plain::Other,
     }
 }
 
@@ -105,20 +101,11 @@ fn plain_strings(s: &[u8]) -> bool
         if s[at] != 10 {
             return false;
         }
-        match part_at(s, at + 1) {
-            Payload::Part { start: _, end } => {
+        match part_found(s, at + 1) {
+            Found::Part { start: _, end } => {
                 at = end;
             }
-            Payload::Number { value: _, next: _ } => {
-                return false;
-            }
-            Payload::Fixed { next: _ } => {
-                return false;
-            }
-            Payload::Refused {
-                refusal: _,
-                place: _,
-            } => {
+            Found::Nothing => {
                 return false;
             }
         }

@@ -1,11 +1,15 @@
 // A message's fields, one after the other, and the last of some numbers among them.
 use field::payload::Payload;
+use field::payload::part_at;
 use field::payload::payload_at;
 use field::tag::Tag;
 use field::tag::tag_at;
 ghost use mathlib.Core.Path.{_≡_};
 ghost use Prim.Native.Nat.{_-_};
+ghost use Rattle.field.specs.Varint.{varintAt};
+ghost use Rattle.field.specs.Field.{partOf};
 ghost use Rattle.fields.specs.Fields.{fieldAt, fieldsAt, lastIn, numberIn, spanIn, firstOf};
+ghost use Rattle.fields.specs.Lengths.{foundOf};
 
 pub enum Field {
     Number {
@@ -175,6 +179,21 @@ pub fn part_in(s: &[u8], number: u64) -> Span
 pub enum Found {
     Part { start: usize, end: usize },
     Nothing,
+}
+
+// A length and its bytes, where they are there.
+pub fn part_found(s: &[u8], at: usize) -> Found
+    ensures { λ r. ⌜ r ≡ foundOf (partOf (now (s .entry)) at (varintAt (now (s .entry)) at)) ⌝ }
+{
+    match part_at(s, at) {
+        Payload::Part { start, end } => Found::Part { start, end },
+        Payload::Number { value: _, next: _ } => Found::Nothing,
+        Payload::Fixed { next: _ } => Found::Nothing,
+        Payload::Refused {
+            refusal: _,
+            place: _,
+        } => Found::Nothing,
+    }
 }
 
 // The first field of a number, from a place on, that has bytes: the elements of a list one after the other.

@@ -1,4 +1,7 @@
 -- The one form from which every message is written: at each field number whatever a message may have there.
+-- These are inner definitions: they follow the code, and no sentence of document 01. An auditor can skip them, since the contract of
+-- each writer (as `write_accept` of crates/client_writer/src/lib.rt) is by the pieces of its message (crates/written/specs/Draft.antt).
+-- What proves them against those: crates/layout/proofs/Outcomes.antt: `same-wrapped`, `same-outcome`, in the proof of each writer.
 use Prim.Native.Nat.{ℕ}
 use mathlib.Core.List.{List, [], _∷_, _++_}
 use mathlib.Core.Bool.{Bool, false}

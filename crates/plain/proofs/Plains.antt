@@ -5,8 +5,8 @@ use mathlib.Core.Path.{_≡_, refl, sym, subst, _∙_}
 use mathlib.Core.List.{List}
 use mathlib.Core.Bool.{Bool, true, false}
 use lib.ListN.{length, getD}
-use lib.Dec.{T, leb, eqb, eqb→eq}
-use borrow.Author.Tests.{le-leb, lt-leb, eq-eqb}
+use lib.Dec.{T, ltb, leb, eqb, eqb→eq}
+use borrow.Author.Tests.{le-leb, lt-leb, eq-eqb, ltb-true, leb-true, eqb-true}
 use Rattle.laws.specs.Base.{pick, both, part}
 use Rattle.field.specs.Varint.{varintAt}
 use Rattle.schema.specs.Schema.{kindOf, takes, schema}
@@ -15,15 +15,14 @@ use Rattle.field.specs.declared.varint.Varint.{Varint}
 use Rattle.field.specs.declared.varint.Varint.the-variants.{Value}
 use Rattle.field.specs.declared.tag.Tag.the-variants as tag
 use Rattle.field.specs.declared.payload.Payload.the-variants.{Part}
-use Rattle.fields.specs.declared.Found.{Found}
-use Rattle.fields.specs.declared.Found.the-variants as found
+use Rattle.laws.proofs.Order.{both-true}
 use Rattle.laws.proofs.Parts.{length-part}
-use Rattle.field.proofs.Varints as varints
+use Rattle.field.proofs.Varints.{one-byte}
 use Rattle.schema.proofs.Rows.{kinds}
 use Rattle.encoding.proofs.Walk.{lies, tag-is}
 use Rattle.walk.specs.Places.{timeSpecOf, ioBufferOf}
 use Rattle.client_walk.specs.Client.{clientOf}
-use Rattle.plain.specs.Plain.{HasTag, Finds, Ends, TimeSaid, Tailed, IoSaid, IoTag, ClientSaid, withData}
+use Rattle.plain.specs.Plain.{byteIs, isIo, HasTag, Ends, TimeSaid, Tailed, IoSaid, IoTag, ClientSaid, withData}
 use Rattle.plain.specs.declared.Ending.{Ending}
 use Rattle.plain.specs.declared.Ending.the-variants as ending
 use Rattle.plain.specs.declared.PlainTime.{PlainTime}
@@ -40,8 +39,19 @@ use Rattle.walk.proofs.Ios as ios
 use Rattle.client_walk.proofs.Clients as clients
 
 -- a byte below 128 is a tag of one byte
-pub one-byte : (s : List ℕ) (at t : ℕ) → at < length s → t ≡ getD s at 0 → t < 128 → HasTag s at t
-one-byte s at t i e l = record { within = i; tagged = varints.one-byte s at t i (sym e) l }
+pub tag-there : (s : List ℕ) (at t : ℕ) → byteIs s at t ≡ true → t < 128 → HasTag s at t
+unfolding byteIs
+tag-there s at t e l =
+    let h = both-true (ltb at (length s)) (eqb (getD s at 0) t) e in
+    let i : at < length s = ltb-true at (length s) (h .0) in
+    record { within = i; tagged = one-byte s at t i (eqb-true (getD s at 0) t (h .1)) l }
+
+pub io-tag : (t : ℕ) → isIo t ≡ true → IoTag t
+unfolding isIo
+io-tag t e =
+    let h = both-true (leb 50 t) (both (leb t 82) (eqb (t % 8) 2)) e in
+    let k = both-true (leb t 82) (eqb (t % 8) 2) (h .1) in
+    record { least = leb-true 50 t (h .0); most = leb-true t 82 (k .0); bytes = eqb-true (t % 8) 2 (k .1) }
 
 -- ---- the delay
 
@@ -68,10 +78,6 @@ seconds-nanos s k v n e r h w q =
     times.finish (times.nano g (l .0 .within) 16 (n + 1) (l .0 .tagged) refl w (length s) (l .1) .1) (omega arith)
 
 -- ---- the buffer
-
-pub found-part : (s : List ℕ) (at : ℕ) (r : Found) → Finds s at r → (a b : ℕ) → r ≡ found.Part a b → partOf s at (varintAt s at) ≡ Part a b
-unfolding Finds
-found-part s at r h a b e = subst (Finds s at) e h
 
 data-behind : (s : List ℕ) (b x y : ℕ) → ios.Walked s b x y 0 0 → (r : Tail) → Tailed s b r → IoSaid s (withData x y r)
 unfolding Tailed IoSaid withData

@@ -1,15 +1,19 @@
 -- Short ways: what is said of a TimeSpec, an IoBuffer and a ClientMessage in the form in which clients send them. It is what the
 -- general definitions say; nothing is said of another form.
+-- These are inner definitions: they follow the code, and no sentence of document 01. An auditor can skip them, since the contract of
+-- `client` (crates/plain/src/lib.rt) is the general `clientOf` (crates/client_walk/specs/Client.antt). What proves them against it:
+-- crates/plain/proofs/Plains.antt: `delay-data`, `member-io`.
 use Prim.Native.Nat.{ℕ, _+_, _%_, _≤_, _<_}
 use mathlib.Core.Path.{_≡_}
 use mathlib.Core.List.{List}
-use lib.ListN.{length}
+use mathlib.Core.Bool.{Bool}
+use lib.ListN.{length, getD}
+use lib.Dec.{ltb, leb, eqb}
+use Rattle.laws.specs.Base.{both}
 use Rattle.field.specs.Varint.{varintAt}
 use Rattle.field.specs.Field.{partOf}
 use Rattle.field.specs.declared.varint.Varint.the-variants.{Value}
 use Rattle.field.specs.declared.payload.Payload.the-variants.{Part}
-use Rattle.fields.specs.declared.Found.{Found}
-use Rattle.fields.specs.declared.Found.the-variants as found
 use Rattle.walk.specs.Places.{timeSpecOf, ioBufferOf}
 use Rattle.client_walk.specs.Client.{clientOf}
 use Rattle.walk.specs.declared.time.TimeRead.the-variants as timeread
@@ -31,10 +35,9 @@ pub record HasTag (s : List ℕ) (at t : ℕ) : Type 0 where
   pub within : at < length s
   pub tagged : varintAt s at ≡ Value t (at + 1)
 
--- a length and its bytes are at a place
-unfoldable pub Finds : List ℕ → ℕ → Found → Type 0
-Finds s at (found.Part a e) = partOf s at (varintAt s at) ≡ Part a e
-Finds s at found.Nothing = Unit
+-- is t the byte at a place
+unfoldable pub byteIs : List ℕ → ℕ → ℕ → Bool
+byteIs s at t = both (ltb at (length s)) (eqb (getD s at 0) t)
 
 -- the nanoseconds are at a place, and end the TimeSpec
 unfoldable pub Ends : List ℕ → ℕ → Ending → Type 0
@@ -59,7 +62,11 @@ unfoldable pub ClientSaid : List ℕ → PlainClient → Type 0
 ClientSaid s (client.Io f x y a e) = clientread.Io f x y a e ≡ clientOf s
 ClientSaid s client.Other = Unit
 
--- a tag of the members 6 to 10: wire type 2
+-- is it a tag of the members 6 to 10: wire type 2
+unfoldable pub isIo : ℕ → Bool
+isIo t = both (leb 50 t) (both (leb t 82) (eqb (t % 8) 2))
+
+-- t is such a tag
 pub record IoTag (t : ℕ) : Type 0 where
   pub least : 50 ≤ t
   pub most : t ≤ 82

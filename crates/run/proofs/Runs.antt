@@ -3,12 +3,11 @@ use Prim.Native.Nat.{ℕ, zero, suc, _+_, _-_, _≤_, _<_}
 use native.Mathlib.Omega.{arith}
 use mathlib.Core.Path.{_≡_, refl, sym, ap, _∙_}
 use mathlib.Core.List.{List}
-use mathlib.Core.Bool.{Bool, true, false}
 use mathlib.Core.Logic.{⊎-elim}
 use lib.ListN.{length}
 use lib.Dec.{eqb}
 use borrow.Author.Tests.{lt-ltb, le-ltb}
-use Rattle.laws.specs.Base.{pick, part}
+use Rattle.laws.specs.Base.{part}
 use Rattle.laws.proofs.Order.{lt-or-le, picked}
 use Rattle.schema.specs.Schema.{InfoMessage}
 use Rattle.field.specs.Field.{tagAt, payloadAt}
@@ -20,8 +19,7 @@ use Rattle.field.specs.declared.payload.Payload.the-variants as payload
 use Rattle.encoding.specs.declared.check.Checked.{Checked}
 use Rattle.encoding.specs.declared.check.Checked.the-variants as checked
 use Rattle.fields.proofs.Reach.{TagRead, tag-at, PayloadRead, payload-at}
-use Rattle.written.specs.Run.{onEntry, onTag, runFrom, runAt}
-use Rattle.run.specs.Entry.{entryOf, entryAt}
+use Rattle.written.specs.Run.{entryOf, entryAt, onEntry, runFrom, runAt}
 
 -- ---- how far an entry reaches
 
@@ -51,18 +49,6 @@ reached f s at l = from-tag f s at l (tagAt s at) (tag-at s at)
 
 -- ---- how the check goes on
 
-on-tag : (go : ℕ → Checked) (f : ℕ) (s : List ℕ) (at : ℕ) (t : Tag) → onTag go f s at t ≡ onEntry go s (entryOf f s at t)
-unfolding onTag onEntry entryOf
-on-tag go f s at (tag.Refused r) = refl
-on-tag go f s at (tag.Field n w x) = by-tests (eqb n f) (eqb w 2)
-  where
-    by-tests : (a b : Bool)
-        → pick a (pick b (onEntry go s (payloadAt s at x w)) (checked.Refused 5 at)) (checked.Refused 4 at)
-        ≡ onEntry go s (pick a (pick b (payloadAt s at x w) (payload.Refused 5 at)) (payload.Refused 4 at))
-    by-tests true true = refl
-    by-tests true false = refl
-    by-tests false b = refl
-
 -- two checks that agree where an entry leads agree on it
 same-entry : (go go' : ℕ → Checked) (s : List ℕ) (at : ℕ) → ((n : ℕ) → at < n → n ≤ length s → go n ≡ go' n)
     → (p : Payload) → Reached s at p → onEntry go s p ≡ onEntry go' s p
@@ -80,8 +66,8 @@ module _ (f : ℕ) (s : List ℕ) where
   done (suc k) at h = simp (le-ltb _ _ h)
 
   goes : (k at : ℕ) → at < length s → runFrom (suc k) f s at ≡ onEntry (runFrom k f s) s (entryAt f s at)
-  unfolding runFrom entryAt
-  goes k at h = simp (lt-ltb _ _ h) (on-tag (runFrom k f s) f s at (tagAt s at))
+  unfolding runFrom
+  goes k at h = simp (lt-ltb _ _ h)
 
   -- more than enough is enough
   enough : (k j at : ℕ) → length s - at < k → length s - at < j → runFrom k f s at ≡ runFrom j f s at

@@ -7,8 +7,7 @@ use field::tag::Tag;
 use field::tag::tag_at;
 use limits::entries_fit;
 ghost use mathlib.Core.Path.{_≡_};
-ghost use Rattle.written.specs.Run.{runAt, runRefusal};
-ghost use Rattle.run.specs.Entry.{entryAt};
+ghost use Rattle.written.specs.Run.{entryAt, runAt, runRefusal};
 
 // The entry at a place: another field is refused with 4, another wire type with 5.
 fn entry_at(field: u64, s: &[u8], at: usize) -> Payload

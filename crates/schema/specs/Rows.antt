@@ -1,5 +1,8 @@
 -- The schema as the code holds it: the kinds of a message's fields 0 to 7, and 8 to 15, as one number each, a byte for a
--- field, the first lowest. `Rows` in proofs/ shows once that these are the kinds of the schema.
+-- field, the first lowest.
+-- These are inner definitions: they follow the code, and no sentence of document 01. An auditor can skip them, since the contract of
+-- `kind_of` (crates/schema/src/lib.rt) is the general `kindOf` (crates/schema/specs/Schema.antt). What proves them against it:
+-- crates/schema/proofs/Rows.antt: `kind-in`.
 use Prim.Native.Nat.{ℕ, _-_, _*_, _/_, _%_, _^_}
 use mathlib.Core.List.{List, [], _∷_}
 use lib.ListN.{getD}

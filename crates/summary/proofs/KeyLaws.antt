@@ -5,7 +5,7 @@ use mathlib.Core.Path.{_≡_, refl, sym, ap, subst, _∙_}
 use mathlib.Core.List.{List, [], _∷_, map}
 use mathlib.Core.Bool.{Bool, true, false}
 use lib.ListN.{length}
-use lib.Dec.{eqb}
+use lib.Dec.{eqb, lit≤}
 use borrow.Author.Tests.{le-leb, ne-eqb, eqb-true}
 use Rattle.laws.specs.Base.{pick, part}
 use Rattle.laws.proofs.Order.{both-true}
@@ -15,7 +15,7 @@ use Rattle.fields.specs.declared.Field.{Field}
 use Rattle.message.specs.Message.{Bytes, Value, absent, numval, strval, strlistval, numlistval, Entry, entry}
 use Rattle.limits.specs.Limits.{isSet, entryFits}
 use Rattle.required.specs.Required.{sameBytes, keyBytes, stringOrNone}
-use Rattle.summary.specs.Summary.{isMet, isString, EntrySeen, KeySeen}
+use Rattle.summary.specs.Summary.{keyNumber, withKey, allMet, isMet, isString, EntrySeen, KeySeen}
 use Rattle.summary.specs.declared.Keys.{Keys}
 use Rattle.summary.specs.declared.Seen.{Seen}
 use Rattle.summary.specs.declared.Seen.the-variants as seen
@@ -61,7 +61,60 @@ module _ (a : Bytes) where
   pub key-length : (k n : ℕ) → length (keyBytes k) ≡ n → (length a ≡ n → ⊥) → sameBytes a (keyBytes k) ≡ false
   key-length k n e h = same-length a (keyBytes k) (λ l. h (l ∙ e))
 
--- ---- an entry by its key, which is not empty and has the number n
+-- the number n is the key's where it tells the four keys as the key does
+five : (n : ℕ) → n < 5 → n ≡ pick (eqb n 0) 0 (pick (eqb n 1) 1 (pick (eqb n 2) 2 (pick (eqb n 3) 3 4)))
+five zero h = refl
+five (suc zero) h = refl
+five (suc (suc zero)) h = refl
+five (suc (suc (suc zero))) h = refl
+five (suc (suc (suc (suc zero)))) h = refl
+five (suc (suc (suc (suc (suc n))))) h = absurd (omega arith)
+
+pub key-is : (d : Bytes) (n : ℕ) → n < 5 → ((k : ℕ) → k < 4 → sameBytes d (keyBytes k) ≡ eqb n k) → n ≡ keyNumber d
+unfolding keyNumber
+key-is d n l f = rw (f 0 (lit≤ tt), f 1 (lit≤ tt), f 2 (lit≤ tt), f 3 (lit≤ tt)) (five n l)
+
+-- and it does
+pub key-named : (d : Bytes) (k : ℕ) → k < 4 → sameBytes d (keyBytes k) ≡ eqb (keyNumber d) k
+unfolding keyNumber
+key-named d = from-0 (sameBytes d (keyBytes 0)) refl
+  where
+    Named : ℕ → Type 0
+    Named n = (k : ℕ) → k < 4 → sameBytes d (keyBytes k) ≡ eqb n k
+
+    from-3 : sameBytes d (keyBytes 0) ≡ false → sameBytes d (keyBytes 1) ≡ false → sameBytes d (keyBytes 2) ≡ false → (t : Bool)
+        → sameBytes d (keyBytes 3) ≡ t → Named (pick t 3 4)
+    from-3 p q r true e = key-there d 3 (lit≤ tt) e
+    from-3 p q r false e = key-other d p q r e
+
+    from-2 : sameBytes d (keyBytes 0) ≡ false → sameBytes d (keyBytes 1) ≡ false → (t : Bool) → sameBytes d (keyBytes 2) ≡ t
+        → Named (pick t 2 (pick (sameBytes d (keyBytes 3)) 3 4))
+    from-2 p q true e = key-there d 2 (lit≤ tt) e
+    from-2 p q false e = from-3 p q e (sameBytes d (keyBytes 3)) refl
+
+    from-1 : sameBytes d (keyBytes 0) ≡ false → (t : Bool) → sameBytes d (keyBytes 1) ≡ t
+        → Named (pick t 1 (pick (sameBytes d (keyBytes 2)) 2 (pick (sameBytes d (keyBytes 3)) 3 4)))
+    from-1 p true e = key-there d 1 (lit≤ tt) e
+    from-1 p false e = from-2 p e (sameBytes d (keyBytes 2)) refl
+
+    from-0 : (t : Bool) → sameBytes d (keyBytes 0) ≡ t
+        → Named (pick t 0 (pick (sameBytes d (keyBytes 1)) 1 (pick (sameBytes d (keyBytes 2)) 2 (pick (sameBytes d (keyBytes 3)) 3 4))))
+    from-0 true e = key-there d 0 (lit≤ tt) e
+    from-0 false e = from-1 e (sameBytes d (keyBytes 1)) refl
+
+pub with-key-met : (keys : Keys) (n j : ℕ) → j < 4 → isMet j (withKey keys n) ≡ pick (eqb n j) true (isMet j keys)
+unfolding isMet withKey
+with-key-met keys n = each-key (λ (j : ℕ). isMet j (withKey keys n) ≡ pick (eqb n j) true (isMet j keys)) refl refl refl refl
+
+pub all-are-met : (keys : Keys) → allMet keys ≡ true → (k : ℕ) → k < 4 → isMet k keys ≡ true
+unfolding allMet isMet
+all-are-met keys e =
+    let p = both-true (keys .command) _ e in
+    let q = both-true (keys .runuser) _ (p .1) in
+    let r = both-true (keys .submithost) (keys .submituser) (q .1) in
+    each-key (λ (k : ℕ). isMet k keys ≡ true) (p .0) (q .0) (r .0) (r .1)
+
+-- ---- an entry by its key, which is not empty
 
 string-set : (v : Value) → isString v ≡ true → (isSet v ≡ true) × (stringOrNone v ≡ true)
 unfolding isString isSet stringOrNone
@@ -79,24 +132,24 @@ either : (t : Bool) → pick t true true ≡ true
 either true = refl
 either false = refl
 
-module _ (d : Bytes) (keys : Keys) (n : ℕ) (h : 1 ≤ length d) (named : (k : ℕ) → k < 4 → sameBytes d (keyBytes k) ≡ eqb n k) where
-  pub string-passes : (more : Keys) → ((k : ℕ) → k < 4 → isMet k more ≡ pick (eqb n k) true (isMet k keys)) → KeySeen isString d keys (seen.Fine more)
+module _ (d : Bytes) (keys : Keys) (h : 1 ≤ length d) where
+  pub string-passes : KeySeen isString d keys (seen.Fine (withKey keys (keyNumber d)))
   unfolding KeySeen EntrySeen
-  string-passes more e v t =
+  string-passes v t =
       let y = string-set v t in (
         in-range d v h (y .0),
         λ k l. record {
-          met = e k l ∙ ap (λ (q : Bool). pick q true (isMet k keys)) (sym (named k l));
+          met = with-key-met keys (keyNumber d) k l ∙ ap (λ (q : Bool). pick q true (isMet k keys)) (sym (key-named d k l));
           string = ap (λ (q : Bool). pick (sameBytes d (keyBytes k)) q true) (y .1) ∙ either (sameBytes d (keyBytes k));
         },
       )
 
-  pub other-passes : n ≡ 4 → KeySeen isSet d keys (seen.Fine keys)
+  pub other-passes : keyNumber d ≡ 4 → KeySeen isSet d keys (seen.Fine keys)
   unfolding KeySeen EntrySeen
   other-passes e v t = (
     in-range d v h t,
     λ k l.
-        let q : sameBytes d (keyBytes k) ≡ false = named k l ∙ ne-eqb n k (omega arith) in
+        let q : sameBytes d (keyBytes k) ≡ false = key-named d k l ∙ ne-eqb (keyNumber d) k (omega arith) in
         record { met = ap (λ (x : Bool). pick x true (isMet k keys)) (sym q); string = ap (λ (x : Bool). pick x (stringOrNone v) true) q },
   )
 

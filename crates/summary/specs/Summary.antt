@@ -1,11 +1,14 @@
 -- What one pass over an accept in the form that clients send tells. It is said by properties: the pass is a short way to an answer that
 -- the general one, by `bodyFits` and `entriesRefusal`, would give too. Then what is known on the way, an entry after the other.
+-- These are inner definitions: they follow the code, and no sentence of document 01. An auditor can skip them, since the contract of
+-- `on_accept` (crates/handlers/src/lib.rt) is the general `onMember` (crates/session/specs/Answer.antt). What proves them against
+-- `bodyFits` and `entriesRefusal`: crates/summary/proofs/KeyLaws.antt: `string-passes`, `other-passes`; Summaries.antt: `finish`.
 use Prim.Native.Nat.{ℕ, _<_}
 use mathlib.Core.Path.{_≡_}
 use mathlib.Core.List.{List}
 use mathlib.Core.Bool.{Bool, true, false}
 use lib.Dec.{eqb}
-use Rattle.laws.specs.Base.{pick}
+use Rattle.laws.specs.Base.{pick, both}
 use Rattle.schema.specs.Schema.{AcceptMessage}
 use Rattle.fields.specs.Items.{items}
 use Rattle.message.specs.Message.{Bytes, Value, absent, numval, strval, strlistval, numlistval, Entry, entries, accept}
@@ -23,6 +26,27 @@ unfoldable pub Summarised : List ℕ → Summary → Type 0
 Summarised s (summary.Sound x) =
     (accept (items s) .expectIobufs ≡ x) × (bodyFits AcceptMessage (items s) ≡ true) × (entriesRefusal (entries 2 (items s)) ≡ 0)
 Summarised s summary.Other = Unit
+
+-- ---- the required keys
+
+-- the number of a required key, 0 to 3; 4 for another
+unfoldable pub keyNumber : Bytes → ℕ
+keyNumber d =
+    pick (sameBytes d (keyBytes 0)) 0
+    (pick (sameBytes d (keyBytes 1)) 1 (pick (sameBytes d (keyBytes 2)) 2 (pick (sameBytes d (keyBytes 3)) 3 4)))
+
+-- the keys with that of number n met; 4 adds none
+unfoldable pub withKey : Keys → ℕ → Keys
+withKey keys n = record {
+  command = pick (eqb n 0) true (keys .command);
+  runuser = pick (eqb n 1) true (keys .runuser);
+  submithost = pick (eqb n 2) true (keys .submithost);
+  submituser = pick (eqb n 3) true (keys .submituser);
+}
+
+-- are all four met
+unfoldable pub allMet : Keys → Bool
+allMet keys = both (keys .command) (both (keys .runuser) (both (keys .submithost) (keys .submituser)))
 
 -- ---- an entry
 

@@ -4,21 +4,19 @@ use encoding::entry::Plain;
 use encoding::entry::plain_entry;
 use field::payload::Payload;
 use field::payload::number_at;
-use field::payload::part_at;
+use fields::Found;
+use fields::part_found;
 use laws::wide;
 use message::time_spec_in;
 use required::same;
 ghost use mathlib.Core.Path.{_≡_};
-ghost use mathlib.Core.Bool.{true};
-ghost use Prim.Native.Nat.{ℕ, _<_, _≤_};
-ghost use lib.Dec.{eqb};
+ghost use Prim.Native.Nat.{_≤_};
 ghost use lib.ListN.{length};
-ghost use Rattle.laws.specs.Base.{pick, part};
+ghost use Rattle.laws.specs.Base.{part};
 ghost use Rattle.fields.specs.Items.{items};
 ghost use Rattle.message.specs.Message as m;
 ghost use Rattle.limits.specs.Limits.{dateFits, isSet};
-ghost use Rattle.required.specs.Required.{sameBytes, keyBytes};
-ghost use Rattle.summary.specs.Summary.{isMet, isString, EntrySeen, KeySeen, Summarised};
+ghost use Rattle.summary.specs.Summary.{keyNumber, withKey, allMet, isString, EntrySeen, KeySeen, Summarised};
 
 // The required keys that entries had so far.
 pub struct Keys {
@@ -36,7 +34,7 @@ pub enum Seen {
 
 // The number of a required key, 0 to 3; 4 for another. The length goes first: it tells nearly all other keys apart.
 fn key_number(a: &[u8]) -> u8
-    ensures { λ r. ⌜ ((k : ℕ) → k < 4 → sameBytes (now (a .entry)) (keyBytes k) ≡ eqb r k) ⌝ }
+    ensures { λ r. ⌜ r ≡ keyNumber (now (a .entry)) ⌝ }
 {
     if a.len() == 7 {
         if same(a, b"command") {
@@ -61,7 +59,7 @@ fn key_number(a: &[u8]) -> u8
 
 // The keys with that of number k met; 4 adds none.
 fn with_key(keys: Keys, k: u8) -> Keys
-    ensures { λ r. ⌜ ((j : ℕ) → j < 4 → isMet j r ≡ pick (eqb k j) true (isMet j keys)) ⌝ }
+    ensures { λ r. ⌜ r ≡ withKey keys k ⌝ }
 {
     if k == 0 {
         return Keys {
@@ -98,9 +96,9 @@ fn with_key(keys: Keys, k: u8) -> Keys
     keys
 }
 
-// True only where all four are met.
+// Are all four met.
 fn all_met(keys: Keys) -> bool
-    ensures { λ r. ⌜ (r ≡ true → (k : ℕ) → k < 4 → isMet k keys ≡ true) ⌝ }
+    ensures { λ r. ⌜ r ≡ allMet keys ⌝ }
 {
     if keys.command {
         if keys.runuser {
@@ -199,8 +197,8 @@ pub fn summary_in(s: &[u8]) -> Summary
                 }
             }
         } else {
-            match part_at(s, at + 1) {
-                Payload::Part { start, end } => {
+            match part_found(s, at + 1) {
+                Found::Part { start, end } => {
                     if tag == 18 {
                         match entry_seen(keys, &s[start..end]) {
                             Seen::Fine(k) => {
@@ -221,16 +219,7 @@ pub fn summary_in(s: &[u8]) -> Summary
                         return Summary::Other;
                     }
                 }
-                Payload::Number { value: _, next: _ } => {
-                    return Summary::Other;
-                }
-                Payload::Fixed { next: _ } => {
-                    return Summary::Other;
-                }
-                Payload::Refused {
-                    refusal: _,
-                    place: _,
-                } => {
+                Found::Nothing => {
                     return Summary::Other;
                 }
             }

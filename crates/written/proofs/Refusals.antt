@@ -30,7 +30,7 @@ use Rattle.message.specs.Message.{Bytes, entry, entries}
 use Rattle.limits.specs.Limits.{isSet, entryFits, entriesFit}
 use Rattle.wire.specs.Read.{checkNumber}
 use Rattle.written.specs.Draft.{EntryDraft, numval, strval, strlistval, numlistval, meantValue}
-use Rattle.written.specs.Run.{onEntry, onTag, runFrom, runAt, runRefusal}
+use Rattle.written.specs.Run.{entryOf, entryAt, onEntry, runFrom, runAt, runRefusal}
 use Rattle.written.proofs.Joined.{items-joined}
 use Rattle.written.proofs.Values.{every-joined}
 use Rattle.written.proofs.Runs.{run-of, run-whole, run-joined}
@@ -139,19 +139,19 @@ module _ (f : ℕ) (s : List ℕ) where
   on-entry-told go g (payload.Fixed n) h = g n
   on-entry-told go g (payload.Refused r p) h = h
 
-  on-tag-told : (go : ℕ → Checked) → ((n : ℕ) → CheckTold (go n)) → (at : ℕ) (t : Tag) → TagTold t → CheckTold (onTag go f s at t)
-  unfolding onTag
-  on-tag-told go g at (tag.Refused r) h = h
-  on-tag-told go g at (tag.Field n w x) h =
-      picked CheckTold (eqb n f) _ _
-      (λ _. picked CheckTold (eqb w 2) _ _ (λ _. on-entry-told go g (payloadAt s at x w) (payload-told s at x w)) (λ _. (omega arith, omega arith)))
-      (λ _. (omega arith, omega arith))
+  entry-of-told : (at : ℕ) (t : Tag) → TagTold t → Told (entryOf f s at t)
+  unfolding entryOf
+  entry-of-told at (tag.Refused r) h = h
+  entry-of-told at (tag.Field n w x) h =
+      picked Told (eqb n f) _ _ (λ _. picked Told (eqb w 2) _ _ (λ _. payload-told s at x w) (λ _. (omega arith, omega arith))) (λ _. (omega arith, omega arith))
 
   run-from-told : (k at : ℕ) → CheckTold (runFrom k f s at)
-  unfolding runFrom tagAt
+  unfolding runFrom entryAt tagAt
   run-from-told zero at = tt
   run-from-told (suc k) at =
-      picked CheckTold (ltb at (length s)) _ _ (λ _. on-tag-told (runFrom k f s) (run-from-told k) at (tagAt s at) (tag-told s (varintAt s at))) (λ _. tt)
+      picked CheckTold (ltb at (length s)) _ _
+      (λ _. on-entry-told (runFrom k f s) (run-from-told k) (entryAt f s at) (entry-of-told at (tagAt s at) (tag-told s (varintAt s at))))
+      (λ _. tt)
 
   number-fine : (c : Checked) (n : ℕ) → CheckTold c → checkNumber c n ≡ 0 → (c ≡ checked.Fine) × (n ≡ 0)
   unfolding checkNumber

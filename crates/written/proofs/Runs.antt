@@ -33,7 +33,7 @@ use Rattle.fields.proofs.Reach.{TagRead, tag-at, PayloadRead, payload-at}
 use Rattle.fields.proofs.Follow.{follow, none}
 use Rattle.elements.specs.Elements.{itemsAt}
 use Rattle.written.specs.Pieces.{head}
-use Rattle.written.specs.Run.{onEntry, onTag, runFrom, runAt}
+use Rattle.written.specs.Run.{entryOf, entryAt, onEntry, runFrom, runAt}
 use Rattle.written.proofs.Moves.{Lies, Taken, TakenField, movedPayload, part-moves, tag-moves, payload-moves}
 use Rattle.written.proofs.Chains.{Chain, done, more, both-fine, Stepped, into, passes, endOf, FieldTo}
 use Rattle.written.proofs.Joined.{joined}
@@ -78,13 +78,13 @@ module _ (f : ℕ) (s : List ℕ) where
     by-value x i t (payload.Fixed n) e h b c = absurd b
     by-value x i t (payload.Refused r p) e h b c = let z : _≡_ {A = ℕ} 0 1 = cc in absurd (omega arith)
 
-    by-tag : (t : Tag) → tagAt s at ≡ t → TagRead s at t → onTag go f s at t ≡ checked.Fine → Run f s at
-    unfolding onTag payloadAt
+    by-tag : (t : Tag) → tagAt s at ≡ t → TagRead s at t → onEntry go s (entryOf f s at t) ≡ checked.Fine → Run f s at
+    unfolding entryOf onEntry payloadAt
     by-tag (tag.Refused r) e h c = let z : _≡_ {A = ℕ} 0 1 = cc in absurd (omega arith)
     by-tag (tag.Field n w x) e h c = inner (eqb n f) refl (eqb w 2) refl c
       where
         inner : (t : Bool) → eqb n f ≡ t → (u : Bool) → eqb w 2 ≡ u
-            → pick t (pick u (onEntry go s (payloadAt s at x w)) (checked.Refused 5 at)) (checked.Refused 4 at) ≡ checked.Fine → Run f s at
+            → onEntry go s (pick t (pick u (payloadAt s at x w) (payload.Refused 5 at)) (payload.Refused 4 at)) ≡ checked.Fine → Run f s at
         inner true p true q c =
             let a : n ≡ f = eqb-true n f p in
             let b : w ≡ 2 = eqb-true w 2 q in
@@ -93,7 +93,7 @@ module _ (f : ℕ) (s : List ℕ) where
         inner false p u q c = let z : _≡_ {A = ℕ} 0 1 = cc in absurd (omega arith)
 
   from : (k at : ℕ) → length s - at < k → at ≤ length s → runFrom k f s at ≡ checked.Fine → Run f s at
-  unfolding runFrom
+  unfolding runFrom entryAt
   from zero at l i h = absurd (omega arith)
   from (suc k) at l i h =
       ⊎-elim
@@ -108,7 +108,7 @@ module _ (f : ℕ) (s : List ℕ) where
 
   -- and such a chain is taken
   taken-from : (k : ℕ) {at : ℕ} → Run f s at → runFrom k f s at ≡ checked.Fine
-  unfolding runFrom onTag onEntry before
+  unfolding runFrom entryAt entryOf onEntry before
   taken-from zero c = refl
   taken-from (suc k) done = rw (le-ltb (length s) (length s) (omega arith))
   taken-from (suc k) (more {at} {n} lt le h r) =

@@ -21,6 +21,16 @@ use Rattle.message.specs.Message.{entries}
 use Rattle.limits.specs.Limits.{entriesFit}
 use Rattle.wire.specs.Read.{checkNumber}
 
+-- the value of an entry, by its tag: another field is 4, another wire type 5, both at the tag
+unfoldable pub entryOf : ℕ → List ℕ → ℕ → Tag → Payload
+entryOf f s at (tag.Refused r) = payload.Refused r at
+entryOf f s at (tag.Field n w x) =
+    pick (eqb n f) (pick (eqb w 2) (payloadAt s at x w) (payload.Refused 5 at)) (payload.Refused 4 at)
+
+-- the value of the entry at a place of a run of fields f
+unfoldable pub entryAt : ℕ → List ℕ → ℕ → Payload
+entryAt f s at = entryOf f s at (tagAt s at)
+
 -- an entry's value, and the check `go` of what follows it: an InfoMessage, read within its own bytes
 unfoldable pub onEntry : (ℕ → Checked) → List ℕ → Payload → Checked
 onEntry go s (payload.Part a e) = before a (checkOf InfoMessage (part s a e)) (go e)
@@ -28,15 +38,9 @@ onEntry go s (payload.Number v n) = go n
 onEntry go s (payload.Fixed n) = go n
 onEntry go s (payload.Refused r p) = checked.Refused r p
 
--- a field of the run at a place: 4 for a bad tag or another field, 5 for another wire type
-unfoldable pub onTag : (ℕ → Checked) → ℕ → List ℕ → ℕ → Tag → Checked
-onTag go f s at (tag.Refused r) = checked.Refused r at
-onTag go f s at (tag.Field n w x) =
-    pick (eqb n f) (pick (eqb w 2) (onEntry go s (payloadAt s at x w)) (checked.Refused 5 at)) (checked.Refused 4 at)
-
 unfoldable pub runFrom : ℕ → ℕ → List ℕ → ℕ → Checked
 runFrom zero f s at = checked.Fine
-runFrom (suc k) f s at = pick (ltb at (length s)) (onTag (runFrom k f s) f s at (tagAt s at)) checked.Fine
+runFrom (suc k) f s at = pick (ltb at (length s)) (onEntry (runFrom k f s) s (entryAt f s at)) checked.Fine
 
 -- the check of a run of fields f from a place on: there are no more fields than bytes
 unfoldable pub runAt : ℕ → List ℕ → ℕ → Checked

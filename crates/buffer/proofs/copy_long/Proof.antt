@@ -33,7 +33,7 @@ returns : tie.Need-returns
 returns c =
     let a = c .before .before .before .before .before .before .before .before .before .before .before .args in
     let pages = c .before .before .before .before .before .before .before .copy-pages in
-    part-on (a .area .now) _ _ (a .at) (a .bytes .now) (pages .result) (length (a .bytes .now)) (pages .ensures .0) (omega arith) (omega arith) (pages .ensures .1) (c .before .before .copy-few .ensures)
+    part-on (a .area .now) _ _ (a .at) (a .bytes .now) (pages .result) (length (a .bytes .now)) (omega (arith, pages .ensures .0)) (omega arith) (omega arith) (pages .ensures .1) (c .before .before .copy-few .ensures)
     ∙ ap (splice (a .area .now) (a .at)) (take-length (a .bytes .now))
 
 pub copy-long-spec : {M : Type 1} → statement M

@@ -1,5 +1,5 @@
 use mathlib.Core.Path.{_≡_, refl, _∙_}
-use Prim.Native.Nat.{_+_, _-_, _≤_}
+use Prim.Native.Nat.{_+_, _-_, _%_, _≤_}
 use native.Mathlib.Omega.{arith}
 use lib.ListN.{length, take}
 use lib.Seq.{paste-zero}
@@ -10,7 +10,7 @@ use Rattle.buffer.proofs.copy_pages.Statement.{statement}
 use Rattle.buffer.proofs.copy_pages.Tie as tie
 
 abbrev Inv-loop : tie.InvT-loop
-Inv-loop area₀ at bytes n j₀ area j = (j ≤ n) × (area ≡ splice area₀ at (take j bytes)) × (length area ≡ length area₀)
+Inv-loop area₀ at bytes n j₀ area j = ((j ≤ n) × (j % 16384 ≡ 0)) × (area ≡ splice area₀ at (take j bytes)) × (length area ≡ length area₀)
 
 abbrev μ-loop : tie.MeasureT-loop
 μ-loop area₀ at bytes n j₀ area j = n - j
@@ -18,7 +18,7 @@ abbrev μ-loop : tie.MeasureT-loop
 loop-holds : tie.Need-loop-holds Inv-loop μ-loop
 loop-holds c =
     let a = c .before .before .args in (
-      omega arith,
+      (omega arith, omega arith),
       paste-zero (a .area .now) (a .at) (a .bytes .now) ∙ pasted (a .area .now) (a .at) (a .bytes .now) 0 (omega arith),
       refl,
     )
@@ -54,7 +54,7 @@ loop-again : tie.Need-loop-again Inv-loop μ-loop
 loop-again c =
     let l = c .before .before .before .before .before .before .loop in
     let a = c .before .before .before .before .before .before .before .before .before .args in (
-      omega arith,
+      (omega arith, omega arith),
       part-on (a .area .now) (l .area) _ (a .at) (a .bytes .now) (l .j) (l .j + 16384) (omega arith) (omega arith) (omega arith) (l .inv .1) (c .before .before .copy-page .ensures),
       search needs,
     )
@@ -63,7 +63,7 @@ same-length : tie.Need-same-length Inv-loop μ-loop
 same-length c = search needs
 
 returns : tie.Need-returns Inv-loop μ-loop
-returns c = let l = c .before .loop in (l .inv .0, l .inv .1)
+returns c = let l = c .before .loop in (omega arith, l .inv .1)
 
 pub copy-pages-spec : {M : Type 1} → statement M
 copy-pages-spec =

@@ -1,6 +1,8 @@
+use mathlib.Core.Path.{sym, _∙_}
 use native.Mathlib.Omega.{arith}
 use Rattle.plain.specs.Plain.{Tailed}
-use Rattle.plain.proofs.Plains.{found-part}
+use Rattle.fields.proofs.Lengths.{found-part}
+use Rattle.plain.proofs.Plains.{tag-there}
 use borrow.Author.Needs.{needs}
 use Rattle.plain.proofs.data_at.Statement.{statement}
 use Rattle.plain.proofs.data_at.Tie as tie
@@ -23,7 +25,7 @@ enum-known-start c = search needs
 
 returns-2 : tie.Need-returns-2
 unfolding Tailed
-returns-2 c = (c .before .before .before .before .before .before .has-tag .ensures (c .before .before .before .before .before .if2 .taken) (omega arith), found-part _ _ _ (c .before .before .before .before .part-found .ensures) _ _ (c .before .before .start .given .1), c .if3 .taken)
+returns-2 c = (tag-there _ _ _ (sym (c .before .before .before .before .before .before .has-tag .ensures) ∙ c .before .before .before .before .before .if2 .taken) (omega arith), found-part _ _ _ (c .before .before .before .before .part-found .ensures) _ _ (c .before .before .start .given .1), c .if3 .taken)
 
 returns-3 : tie.Need-returns-3
 unfolding Tailed

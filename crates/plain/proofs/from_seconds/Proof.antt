@@ -1,6 +1,6 @@
 use native.Mathlib.Omega.{arith}
 use mathlib.Core.Path.{sym, _∙_}
-use Rattle.plain.proofs.Plains.{only-seconds, seconds-nanos}
+use Rattle.plain.proofs.Plains.{tag-there, only-seconds, seconds-nanos}
 use Rattle.plain.specs.Plain.{TimeSaid}
 use borrow.Author.Needs.{needs}
 use Rattle.plain.proofs.from_seconds.Statement.{statement}
@@ -16,7 +16,7 @@ enum-known-value : tie.Need-enum-known-value
 enum-known-value c = search needs
 
 returns : tie.Need-returns
-returns c = only-seconds _ (c .before .before .before .before .before .before .has-tag .ensures (c .before .before .before .before .before .if1 .taken) (omega arith)) _ _ (sym (c .before .before .before .before .varint-at .ensures) ∙ c .before .before .value .given .1) (c .if2 .taken)
+returns c = only-seconds _ (tag-there _ _ _ (sym (c .before .before .before .before .before .before .has-tag .ensures) ∙ c .before .before .before .before .before .if1 .taken) (omega arith)) _ _ (sym (c .before .before .before .before .varint-at .ensures) ∙ c .before .before .value .given .1) (c .if2 .taken)
 
 nanos-at-requires : tie.Need-nanos-at-requires
 nanos-at-requires c κs = search needs
@@ -25,7 +25,7 @@ enum-known-nanos : tie.Need-enum-known-nanos
 enum-known-nanos c = search needs
 
 returns-2 : tie.Need-returns-2
-returns-2 c = seconds-nanos _ (c .before .before .before .before .before .before .before .before .before .before .has-tag .ensures (c .before .before .before .before .before .before .before .before .before .if1 .taken) (omega arith)) _ _ (sym (c .before .before .before .before .before .before .before .before .varint-at .ensures) ∙ c .before .before .before .before .before .before .value .given .1) _ (c .before .before .before .nanos-at .ensures) _ (c .before .nanos .given .1)
+returns-2 c = seconds-nanos _ (tag-there _ _ _ (sym (c .before .before .before .before .before .before .before .before .before .before .has-tag .ensures) ∙ c .before .before .before .before .before .before .before .before .before .if1 .taken) (omega arith)) _ _ (sym (c .before .before .before .before .before .before .before .before .varint-at .ensures) ∙ c .before .before .before .before .before .before .value .given .1) _ (c .before .before .before .nanos-at .ensures) _ (c .before .nanos .given .1)
 
 enum-told : tie.Need-enum-told
 enum-told c = search needs

@@ -1,3 +1,4 @@
+use Rattle.plain.proofs.Plains.{tag-there}
 use Prim.Native.Nat.{ℕ}
 use mathlib.Core.Path.{ap}
 use Rattle.field.specs.declared.varint.Varint.the-variants.{Value}
@@ -12,7 +13,7 @@ has-tag-requires : tie.Need-has-tag-requires
 has-tag-requires c κs = search needs
 
 add-varint-at : tie.Need-add-varint-at
-add-varint-at c = let h = c .before .has-tag .ensures (c .if1 .taken) (omega arith) .within in omega (arith, h, c .before .before .before .good .0)
+add-varint-at c = let h = (tag-there _ _ _ (sym (c .before .has-tag .ensures) ∙ c .if1 .taken) (omega arith)) .within in omega (arith, h, c .before .before .before .good .0)
 
 varint-at-requires : tie.Need-varint-at-requires
 varint-at-requires c κs = search needs
@@ -22,7 +23,7 @@ enum-known-value c = search needs
 
 returns : tie.Need-returns
 unfolding Ends
-returns c = (c .before .before .before .before .before .before .has-tag .ensures (c .before .before .before .before .before .if1 .taken) (omega arith), sym (c .before .before .before .before .varint-at .ensures) ∙ c .before .before .value .given .1 ∙ ap (λ (n : ℕ). Value (c .before .before .value .given .0 .0) n) (c .if2 .taken))
+returns c = (tag-there _ _ _ (sym (c .before .before .before .before .before .before .has-tag .ensures) ∙ c .before .before .before .before .before .if1 .taken) (omega arith), sym (c .before .before .before .before .varint-at .ensures) ∙ c .before .before .value .given .1 ∙ ap (λ (n : ℕ). Value (c .before .before .value .given .0 .0) n) (c .if2 .taken))
 
 returns-2 : tie.Need-returns-2
 unfolding Ends

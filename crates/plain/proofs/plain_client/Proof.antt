@@ -1,7 +1,11 @@
 use native.Mathlib.Omega.{arith}
 use mathlib.Core.Path.{sym, _∙_}
 use Rattle.plain.specs.Plain.{ClientSaid}
-use Rattle.plain.proofs.Plains.{one-byte, found-part}
+use Prim.Native.Nat.{_<_}
+use lib.ListN.{length}
+use Rattle.field.proofs.Varints.{one-byte}
+use Rattle.fields.proofs.Lengths.{found-part}
+use Rattle.plain.proofs.Plains.{io-tag}
 use borrow.Author.Needs.{needs}
 use Rattle.plain.proofs.plain_client.Statement.{statement}
 use Rattle.plain.proofs.plain_client.Tie as tie
@@ -26,8 +30,12 @@ enum-known-start : tie.Need-enum-known-start
 enum-known-start c = search needs
 
 from-member-requires : tie.Need-from-member-requires
-from-member-requires c κs = let i = c .before .before .before .before .before .before .is-io .ensures (c .before .before .before .before .before .if2 .taken) in
-    ((i, one-byte _ 0 _ (omega (arith, c .before .before .before .before .before .before .before .before .before .if1 .left)) (c .before .before .before .before .before .before .before .wide .ensures) (omega (arith, i .most))), (found-part _ _ _ (c .before .before .before .before .part-found .ensures) _ _ (c .before .before .start .given .1), c .if3 .taken))
+from-member-requires c κs = let p = c .before .before .before .before in
+    let io = p .before .before in
+    let w = io .before in
+    let tag = io-tag _ (sym (io .is-io .ensures) ∙ p .before .if2 .taken) in
+    let i : 0 < length (w .before .before .before .before .args .s .now) = omega (arith, w .before .before .if1 .left) in
+    ((tag, record { within = i; tagged = one-byte _ 0 _ i (sym (w .wide .ensures)) (omega (arith, tag .most)) }), (found-part _ _ _ (p .part-found .ensures) _ _ (c .before .before .start .given .1), c .if3 .taken))
 
 returns-2 : tie.Need-returns-2
 returns-2 c = search needs

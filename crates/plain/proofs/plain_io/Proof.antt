@@ -1,6 +1,8 @@
+use mathlib.Core.Path.{sym, _∙_}
 use native.Mathlib.Omega.{arith}
 use Rattle.plain.specs.Plain.{IoSaid}
-use Rattle.plain.proofs.Plains.{found-part}
+use Rattle.fields.proofs.Lengths.{found-part}
+use Rattle.plain.proofs.Plains.{tag-there}
 use borrow.Author.Needs.{needs}
 use Rattle.plain.proofs.plain_io.Statement.{statement}
 use Rattle.plain.proofs.plain_io.Tie as tie
@@ -15,7 +17,7 @@ enum-known-start : tie.Need-enum-known-start
 enum-known-start c = search needs
 
 from-delay-requires : tie.Need-from-delay-requires
-from-delay-requires c κs = (c .before .before .before .before .before .has-tag .ensures (c .before .before .before .before .if1 .taken) (omega arith), found-part _ _ _ (c .before .before .before .part-found .ensures) _ _ (c .before .start .given .1))
+from-delay-requires c κs = (tag-there _ _ _ (sym (c .before .before .before .before .before .has-tag .ensures) ∙ c .before .before .before .before .if1 .taken) (omega arith), found-part _ _ _ (c .before .before .before .part-found .ensures) _ _ (c .before .start .given .1))
 
 returns : tie.Need-returns
 returns c = search needs

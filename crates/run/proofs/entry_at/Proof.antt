@@ -1,4 +1,4 @@
-use Rattle.run.specs.Entry.{entryOf, entryAt}
+use Rattle.written.specs.Run.{entryOf, entryAt}
 use borrow.Author.Tests.{eq-eqb, ne-eqb}
 use mathlib.Core.Path.{sym, _∙_}
 use borrow.Author.Needs.{needs}

@@ -1,23 +1,23 @@
-use Prim.Native.Nat.{ℕ}
-use native.Mathlib.Omega.{arith}
-use mathlib.Core.Path.{_≡_}
-use Rattle.summary.specs.Summary.{isMet}
-use Rattle.summary.proofs.KeyLaws.{each-key}
+use mathlib.Core.Path.{refl}
+use Rattle.summary.specs.Summary.{allMet}
 use Rattle.summary.proofs.all_met.Statement.{statement}
 use Rattle.summary.proofs.all_met.Tie as tie
 
 returns : tie.Need-returns
-unfolding isMet
-returns c = λ e. each-key _ (c .before .before .if1 .taken) (c .before .if2 .taken) (c .if3 .taken) e
+unfolding allMet
+returns c = rw (c .before .before .if1 .taken, c .before .if2 .taken, c .if3 .taken) refl
 
 returns-2 : tie.Need-returns-2
-returns-2 c = λ e. let z : _≡_ {A = ℕ} 0 1 = cc in absurd (omega arith)
+unfolding allMet
+returns-2 c = rw (c .before .before .if1 .taken, c .before .if2 .taken, c .if3 .left) refl
 
 returns-3 : tie.Need-returns-3
-returns-3 c = λ e. let z : _≡_ {A = ℕ} 0 1 = cc in absurd (omega arith)
+unfolding allMet
+returns-3 c = rw (c .before .if1 .taken, c .if2 .left) refl
 
 returns-4 : tie.Need-returns-4
-returns-4 c = λ e. let z : _≡_ {A = ℕ} 0 1 = cc in absurd (omega arith)
+unfolding allMet
+returns-4 c = rw (c .if1 .left) refl
 
 pub all-met-spec : {M : Type 1} → statement M
 all-met-spec = tie.close (tie.spec returns returns-2 returns-3 returns-4)

@@ -25,7 +25,7 @@ returns : tie.Need-returns
 returns c = let k = c .before in
     let a = k .before .before .before .before .args in
     let l = length-part (a .s .now) 2 (a .key) (omega arith) (omega arith) in
-    string-passes _ _ _ (omega arith) (k .key-number .ensures) _ (c .with-key .ensures)
+    rw (c .with-key .ensures, k .key-number .ensures) (string-passes _ _ (omega arith))
 
 returns-2 : tie.Need-returns-2
 unfolding KeySeen EntrySeen

@@ -5,8 +5,10 @@ use lib.ListN.{length}
 use lib.Dec.{lit≤}
 use borrow.Author.Needs.{needs}
 use Rattle.field.specs.Field.{tagFits, tagOf}
+use Rattle.fields.proofs.Lengths.{found-part}
 use Rattle.message.specs.Signed.{bool}
 use Rattle.summary.specs.Summary.{EntrySeen, Summarised}
+use Rattle.summary.proofs.KeyLaws.{all-are-met}
 use Rattle.summary.proofs.Summaries.{part-lies, number-lies, part-item, number-item, Told, start, flagged, dated, entered, finish}
 use Rattle.summary.proofs.summary_in.Statement.{statement}
 use Rattle.summary.proofs.summary_in.Tie as tie
@@ -77,11 +79,11 @@ returns-3 : tie.Need-returns-3 Inv-loop μ-loop
 unfolding Summarised
 returns-3 c = tt
 
-add-part-at : tie.Need-add-part-at Inv-loop μ-loop
-add-part-at c = search needs
+add-part-found : tie.Need-add-part-found Inv-loop μ-loop
+add-part-found c = search needs
 
-part-at-requires : tie.Need-part-at-requires Inv-loop μ-loop
-part-at-requires c κs = search needs
+part-found-requires : tie.Need-part-found-requires Inv-loop μ-loop
+part-found-requires c κs = search needs
 
 enum-known-start : tie.Need-enum-known-start Inv-loop μ-loop
 enum-known-start c = search needs
@@ -93,7 +95,7 @@ sub-entry-seen c = let q = c .before .before in
     let l = w .before .before in
     let at = l .before .loop .at in
     let s = l .before .before .before .args .s .now in
-    let h = sym (p .part-at .ensures) ∙ q .start .given .1 in
+    let h = found-part s (at + 1) _ (p .part-found .ensures) _ _ (q .start .given .1) in
     let z = part-lies s (at + 1) (omega arith) h in z .1
 
 part-entry-seen-start : tie.Need-part-entry-seen-start Inv-loop μ-loop
@@ -103,7 +105,7 @@ part-entry-seen-start c = let q = c .before .before in
     let l = w .before .before in
     let at = l .before .loop .at in
     let s = l .before .before .before .args .s .now in
-    let h = sym (p .part-at .ensures) ∙ q .start .given .1 in
+    let h = found-part s (at + 1) _ (p .part-found .ensures) _ _ (q .start .given .1) in
     let z = part-lies s (at + 1) (omega arith) h in omega arith
 
 part-entry-seen-end : tie.Need-part-entry-seen-end Inv-loop μ-loop
@@ -113,7 +115,7 @@ part-entry-seen-end c = let q = c .before .before in
     let l = w .before .before in
     let at = l .before .loop .at in
     let s = l .before .before .before .args .s .now in
-    let h = sym (p .part-at .ensures) ∙ q .start .given .1 in
+    let h = found-part s (at + 1) _ (p .part-found .ensures) _ _ (q .start .given .1) in
     let z = part-lies s (at + 1) (omega arith) h in omega arith
 
 entry-seen-requires : tie.Need-entry-seen-requires Inv-loop μ-loop
@@ -129,7 +131,7 @@ loop-less-2 c = let q = c .before .before .before .before .before .before .befor
     let l = w .before .before in
     let at = l .before .loop .at in
     let s = l .before .before .before .args .s .now in
-    let h = sym (p .part-at .ensures) ∙ q .start .given .1 in
+    let h = found-part s (at + 1) _ (p .part-found .ensures) _ _ (q .start .given .1) in
     let z = part-lies s (at + 1) (omega arith) h in omega arith
 
 loop-again-2 : tie.Need-loop-again-2 Inv-loop μ-loop
@@ -140,7 +142,7 @@ loop-again-2 c = let q = c .before .before .before .before .before .before .befo
     let l = w .before .before in
     let at = l .before .loop .at in
     let s = l .before .before .before .args .s .now in
-    let h = sym (p .part-at .ensures) ∙ q .start .given .1 in
+    let h = found-part s (at + 1) _ (p .part-found .ensures) _ _ (q .start .given .1) in
     let e = c .before .before .before in
     let k = c .before .k .given in
     entered (l .before .loop .inv) _ _ _ (part-item s at (l .loop-test .taken) 18 2 2 (sym (w .wide .ensures) ∙ c .before .before .before .before .before .if2 .taken) (lit≤ tt) (λ x. refl) refl h) (subst (EntrySeen _ _) (k .1) (e .entry-seen .ensures))
@@ -159,7 +161,7 @@ sub-date-seen c = let q = c .before .before .before in
     let l = w .before .before in
     let at = l .before .loop .at in
     let s = l .before .before .before .args .s .now in
-    let h = sym (p .part-at .ensures) ∙ q .start .given .1 in
+    let h = found-part s (at + 1) _ (p .part-found .ensures) _ _ (q .start .given .1) in
     let z = part-lies s (at + 1) (omega arith) h in z .1
 
 part-date-seen-start : tie.Need-part-date-seen-start Inv-loop μ-loop
@@ -169,7 +171,7 @@ part-date-seen-start c = let q = c .before .before .before in
     let l = w .before .before in
     let at = l .before .loop .at in
     let s = l .before .before .before .args .s .now in
-    let h = sym (p .part-at .ensures) ∙ q .start .given .1 in
+    let h = found-part s (at + 1) _ (p .part-found .ensures) _ _ (q .start .given .1) in
     let z = part-lies s (at + 1) (omega arith) h in omega arith
 
 part-date-seen-end : tie.Need-part-date-seen-end Inv-loop μ-loop
@@ -179,7 +181,7 @@ part-date-seen-end c = let q = c .before .before .before in
     let l = w .before .before in
     let at = l .before .loop .at in
     let s = l .before .before .before .args .s .now in
-    let h = sym (p .part-at .ensures) ∙ q .start .given .1 in
+    let h = found-part s (at + 1) _ (p .part-found .ensures) _ _ (q .start .given .1) in
     let z = part-lies s (at + 1) (omega arith) h in omega arith
 
 date-seen-requires : tie.Need-date-seen-requires Inv-loop μ-loop
@@ -192,7 +194,7 @@ loop-less-3 c = let q = c .before .before .before .before .before .before in
     let l = w .before .before in
     let at = l .before .loop .at in
     let s = l .before .before .before .args .s .now in
-    let h = sym (p .part-at .ensures) ∙ q .start .given .1 in
+    let h = found-part s (at + 1) _ (p .part-found .ensures) _ _ (q .start .given .1) in
     let z = part-lies s (at + 1) (omega arith) h in omega arith
 
 loop-again-3 : tie.Need-loop-again-3 Inv-loop μ-loop
@@ -203,7 +205,7 @@ loop-again-3 c = let q = c .before .before .before .before .before .before in
     let l = w .before .before in
     let at = l .before .loop .at in
     let s = l .before .before .before .args .s .now in
-    let h = sym (p .part-at .ensures) ∙ q .start .given .1 in
+    let h = found-part s (at + 1) _ (p .part-found .ensures) _ _ (q .start .given .1) in
     dated (l .before .loop .inv) _ _ (part-item s at (l .loop-test .taken) 10 1 2 (sym (w .wide .ensures) ∙ c .before .before .before .if3 .taken) (lit≤ tt) (λ x. refl) refl h) (sym (c .before .date-seen .ensures) ∙ c .if4 .taken)
 
 returns-5 : tie.Need-returns-5 Inv-loop μ-loop
@@ -221,29 +223,15 @@ returns-7 : tie.Need-returns-7 Inv-loop μ-loop
 unfolding Summarised
 returns-7 c = tt
 
-enum-told-6 : tie.Need-enum-told-6 Inv-loop μ-loop
-enum-told-6 c = search needs
+all-met-requires : tie.Need-all-met-requires Inv-loop μ-loop
+all-met-requires c κs = search needs
 
 returns-8 : tie.Need-returns-8 Inv-loop μ-loop
-unfolding Summarised
-returns-8 c = tt
-
-enum-told-7 : tie.Need-enum-told-7 Inv-loop μ-loop
-enum-told-7 c = search needs
+returns-8 c = finish (c .before .before .before .loop .inv) (c .before .before .loop-test .left) (all-are-met _ (sym (c .before .all-met .ensures) ∙ c .if5 .taken))
 
 returns-9 : tie.Need-returns-9 Inv-loop μ-loop
 unfolding Summarised
 returns-9 c = tt
-
-all-met-requires : tie.Need-all-met-requires Inv-loop μ-loop
-all-met-requires c κs = search needs
-
-returns-10 : tie.Need-returns-10 Inv-loop μ-loop
-returns-10 c = finish (c .before .before .before .loop .inv) (c .before .before .loop-test .left) (c .before .all-met .ensures (c .if5 .taken))
-
-returns-11 : tie.Need-returns-11 Inv-loop μ-loop
-unfolding Summarised
-returns-11 c = tt
 
 pub summary-in-spec : {M : Type 1} → statement M
 summary-in-spec =
@@ -265,8 +253,8 @@ summary-in-spec =
     returns-2
     enum-told-3
     returns-3
-    add-part-at
-    part-at-requires
+    add-part-found
+    part-found-requires
     enum-known-start
     sub-entry-seen
     part-entry-seen-start
@@ -287,10 +275,6 @@ summary-in-spec =
     returns-6
     enum-told-5
     returns-7
-    enum-told-6
-    returns-8
-    enum-told-7
-    returns-9
     all-met-requires
-    returns-10
-    returns-11)
+    returns-8
+    returns-9)

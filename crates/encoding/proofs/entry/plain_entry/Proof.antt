@@ -1,7 +1,8 @@
 use native.Mathlib.Omega.{arith}
 use mathlib.Core.Path.{sym, _∙_}
 use Rattle.encoding.specs.Entry.{Formed}
-use Rattle.encoding.proofs.Entries.{numbered, text, texts, numbers}
+use Rattle.fields.proofs.Lengths.{found-part}
+use Rattle.encoding.proofs.Entries.{key-there, numbered, text, texts, numbers}
 use borrow.Author.Needs.{needs}
 use Rattle.encoding.proofs.entry.plain_entry.Statement.{statement}
 use Rattle.encoding.proofs.entry.plain_entry.Tie as tie
@@ -14,13 +15,13 @@ unfolding Formed
 returns c = tt
 
 shared-slice-read-wide : tie.Need-shared-slice-read-wide
-shared-slice-read-wide c = c .before .before .key-end .ensures (c .before .if1 .left) .goes-on
+shared-slice-read-wide c = let k = c .before in key-there _ _ (k .before .key-end .ensures) (k .if1 .left) .goes-on
 
 wide-requires : tie.Need-wide-requires
 wide-requires c κs = search needs
 
 add-number-at : tie.Need-add-number-at
-add-number-at c = let k = c .before .before .before in omega (arith, k .before .key-end .ensures (k .if1 .left) .goes-on)
+add-number-at c = let k = c .before .before .before in omega (arith, key-there _ _ (k .before .key-end .ensures) (k .if1 .left) .goes-on)
 
 number-at-requires : tie.Need-number-at-requires
 number-at-requires c κs = search needs
@@ -33,7 +34,7 @@ returns-2 c = let v = c .before .before in
     let n = v .before .before in
     let w = n .before .before in
     let k = w .before .before in
-    numbered (k .before .before .before .args .s .now) (k .before .key-end .result) (k .before .key-end .ensures (k .if1 .left))
+    numbered (k .before .before .before .args .s .now) (k .before .key-end .result) (key-there _ _ (k .before .key-end .ensures) (k .if1 .left))
     (sym (w .wide .ensures) ∙ n .before .if2 .taken) (v .value .given .0 .0) (v .value .given .0 .1 .0) (sym (n .number-at .ensures) ∙ v .value .given .1) (c .if3 .taken)
 
 returns-3 : tie.Need-returns-3
@@ -61,11 +62,11 @@ returns-6 : tie.Need-returns-6
 unfolding Formed
 returns-6 c = tt
 
-add-part-at : tie.Need-add-part-at
-add-part-at c = let k = c .before .before .before in omega (arith, k .before .key-end .ensures (k .if1 .left) .goes-on)
+add-part-found : tie.Need-add-part-found
+add-part-found c = let k = c .before .before .before in omega (arith, key-there _ _ (k .before .key-end .ensures) (k .if1 .left) .goes-on)
 
-part-at-requires : tie.Need-part-at-requires
-part-at-requires c κs = search needs
+part-found-requires : tie.Need-part-found-requires
+part-found-requires c κs = search needs
 
 enum-known-start : tie.Need-enum-known-start
 enum-known-start c = search needs
@@ -76,8 +77,8 @@ returns-7 c = let e = c .before in
     let p = v .before .before in
     let w = p .before .before in
     let k = w .before .before in
-    text (k .before .before .before .args .s .now) (k .before .key-end .result) (k .before .key-end .ensures (k .if1 .left))
-    (v .start .given .0 .0) (v .start .given .0 .1 .0) (sym (p .part-at .ensures) ∙ v .start .given .1) (e .if4 .taken) (sym (w .wide .ensures) ∙ c .if5 .taken)
+    text (k .before .before .before .args .s .now) (k .before .key-end .result) (key-there _ _ (k .before .key-end .ensures) (k .if1 .left))
+    (v .start .given .0 .0) (v .start .given .0 .1 .0) (found-part _ _ _ (p .part-found .ensures) _ _ (v .start .given .1)) (e .if4 .taken) (sym (w .wide .ensures) ∙ c .if5 .taken)
 
 returns-8 : tie.Need-returns-8
 returns-8 c = let e = c .before .before in
@@ -85,8 +86,8 @@ returns-8 c = let e = c .before .before in
     let p = v .before .before in
     let w = p .before .before in
     let k = w .before .before in
-    texts (k .before .before .before .args .s .now) (k .before .key-end .result) (k .before .key-end .ensures (k .if1 .left))
-    (v .start .given .0 .0) (v .start .given .0 .1 .0) (sym (p .part-at .ensures) ∙ v .start .given .1) (e .if4 .taken) (sym (w .wide .ensures) ∙ c .if6 .taken)
+    texts (k .before .before .before .args .s .now) (k .before .key-end .result) (key-there _ _ (k .before .key-end .ensures) (k .if1 .left))
+    (v .start .given .0 .0) (v .start .given .0 .1 .0) (found-part _ _ _ (p .part-found .ensures) _ _ (v .start .given .1)) (e .if4 .taken) (sym (w .wide .ensures) ∙ c .if6 .taken)
 
 returns-9 : tie.Need-returns-9
 returns-9 c = let e = c .before .before .before in
@@ -94,17 +95,11 @@ returns-9 c = let e = c .before .before .before in
     let p = v .before .before in
     let w = p .before .before in
     let k = w .before .before in
-    numbers (k .before .before .before .args .s .now) (k .before .key-end .result) (k .before .key-end .ensures (k .if1 .left))
-    (v .start .given .0 .0) (v .start .given .0 .1 .0) (sym (p .part-at .ensures) ∙ v .start .given .1) (e .if4 .taken) (sym (w .wide .ensures) ∙ c .if7 .taken)
+    numbers (k .before .before .before .args .s .now) (k .before .key-end .result) (key-there _ _ (k .before .key-end .ensures) (k .if1 .left))
+    (v .start .given .0 .0) (v .start .given .0 .1 .0) (found-part _ _ _ (p .part-found .ensures) _ _ (v .start .given .1)) (e .if4 .taken) (sym (w .wide .ensures) ∙ c .if7 .taken)
 
 enum-told-4 : tie.Need-enum-told-4
 enum-told-4 c = search needs
-
-enum-told-5 : tie.Need-enum-told-5
-enum-told-5 c = search needs
-
-enum-told-6 : tie.Need-enum-told-6
-enum-told-6 c = search needs
 
 returns-10 : tie.Need-returns-10
 unfolding Formed
@@ -117,14 +112,6 @@ returns-11 c = tt
 returns-12 : tie.Need-returns-12
 unfolding Formed
 returns-12 c = tt
-
-returns-13 : tie.Need-returns-13
-unfolding Formed
-returns-13 c = tt
-
-returns-14 : tie.Need-returns-14
-unfolding Formed
-returns-14 c = tt
 
 pub plain-entry-spec : {M : Type 1} → statement M
 plain-entry-spec =
@@ -145,17 +132,13 @@ plain-entry-spec =
     returns-5
     enum-told-3
     returns-6
-    add-part-at
-    part-at-requires
+    add-part-found
+    part-found-requires
     enum-known-start
     returns-7
     returns-8
     returns-9
     enum-told-4
-    enum-told-5
-    enum-told-6
     returns-10
     returns-11
-    returns-12
-    returns-13
-    returns-14)
+    returns-12)

@@ -5,6 +5,7 @@ use lib.ListN.{length}
 use borrow.Author.Needs.{needs}
 use Rattle.schema.specs.Schema.{StringList}
 use Rattle.encoding.specs.Check.{checkAt, checkOf}
+use Rattle.fields.proofs.Lengths.{found-part}
 use Rattle.encoding.proofs.Checks.{at-end}
 use Rattle.encoding.proofs.Entries.{Passed, passed, unsaid}
 use Rattle.encoding.proofs.entry.plain_strings.Statement.{statement}
@@ -25,11 +26,11 @@ shared-slice-read-if1 c = search needs
 returns : tie.Need-returns Inv-loop μ-loop
 returns c = unsaid
 
-add-part-at : tie.Need-add-part-at Inv-loop μ-loop
-add-part-at c = search needs
+add-part-found : tie.Need-add-part-found Inv-loop μ-loop
+add-part-found c = search needs
 
-part-at-requires : tie.Need-part-at-requires Inv-loop μ-loop
-part-at-requires c κs = search needs
+part-found-requires : tie.Need-part-found-requires Inv-loop μ-loop
+part-found-requires c κs = search needs
 
 enum-known-end : tie.Need-enum-known-end Inv-loop μ-loop
 enum-known-end c = search needs
@@ -40,7 +41,7 @@ past : (c : tie.After-known-told Inv-loop μ-loop)
 past c = let v = c .before in
     let p = v .before .before in
     let l = p .before .before .before in
-    passed (l .before .before .before .args .s .now) (l .before .loop .at) (v .end .given .0 .0) (v .end .given .0 .1 .0) (l .loop-test .taken) (p .before .if1 .left) (sym (p .part-at .ensures) ∙ v .end .given .1)
+    passed (l .before .before .before .args .s .now) (l .before .loop .at) (v .end .given .0 .0) (v .end .given .0 .1 .0) (l .loop-test .taken) (p .before .if1 .left) (found-part _ _ _ (p .part-found .ensures) _ _ (v .end .given .1))
 
 loop-less : tie.Need-loop-less Inv-loop μ-loop
 loop-less c = let h = past c in omega arith
@@ -54,20 +55,8 @@ enum-told c = search needs
 returns-2 : tie.Need-returns-2 Inv-loop μ-loop
 returns-2 c = unsaid
 
-enum-told-2 : tie.Need-enum-told-2 Inv-loop μ-loop
-enum-told-2 c = search needs
-
 returns-3 : tie.Need-returns-3 Inv-loop μ-loop
-returns-3 c = unsaid
-
-enum-told-3 : tie.Need-enum-told-3 Inv-loop μ-loop
-enum-told-3 c = search needs
-
-returns-4 : tie.Need-returns-4 Inv-loop μ-loop
-returns-4 c = unsaid
-
-returns-5 : tie.Need-returns-5 Inv-loop μ-loop
-returns-5 c = let a = c .before .before .before .args in λ _. sym (c .before .loop .inv .1) ∙ at-end StringList (a .s .now) (c .before .loop .at) (c .loop-test .left)
+returns-3 c = let a = c .before .before .before .args in λ _. sym (c .before .loop .inv .1) ∙ at-end StringList (a .s .now) (c .before .loop .at) (c .loop-test .left)
 
 pub plain-strings-spec : {M : Type 1} → statement M
 plain-strings-spec =
@@ -78,15 +67,11 @@ plain-strings-spec =
     loop-holds
     shared-slice-read-if1
     returns
-    add-part-at
-    part-at-requires
+    add-part-found
+    part-found-requires
     enum-known-end
     loop-less
     loop-again
     enum-told
     returns-2
-    enum-told-2
-    returns-3
-    enum-told-3
-    returns-4
-    returns-5)
+    returns-3)

@@ -1,8 +1,7 @@
-use native.Mathlib.Omega.{arith}
 use mathlib.Core.Path.{sym}
 use borrow.Author.Tests.{le-leb}
 use Rattle.field.specs.Field.{partOf}
-use Rattle.field.proofs.Varints.{ends}
+use Rattle.field.proofs.Varints.{one-byte}
 use borrow.Author.Needs.{needs}
 use Rattle.field.proofs.payload.part_at.Statement.{statement}
 use Rattle.field.proofs.payload.part_at.Tie as tie
@@ -26,8 +25,7 @@ returns : tie.Need-returns
 unfolding partOf
 returns c = let w = c .before .before in
     let a = w .before .before .before .before .args in
-    let one = ends (a .s .now) (a .at) 9 (omega arith) (w .before .before .if1 .taken) (omega (arith, w .wide .ensures)) in
-    rw (sym one) (rw (sym (w .wide .ensures)) (simp (le-leb _ _ (c .if3 .taken))))
+    rw (one-byte (a .s .now) (a .at) (w .wide .result) (w .before .before .if1 .taken) (sym (w .wide .ensures)) (c .before .if2 .taken), le-leb _ _ (c .if3 .taken))
 
 part-slow-requires : tie.Need-part-slow-requires
 part-slow-requires c κs = search needs

@@ -1,8 +1,6 @@
-use native.Mathlib.Omega.{arith}
-use mathlib.Core.Path.{sym, ap, _∙_}
-use Rattle.field.specs.Field.{tagAt, tagOf}
-use Rattle.field.specs.declared.varint.Varint.{Varint}
-use Rattle.field.proofs.Varints.{ends}
+use mathlib.Core.Path.{sym}
+use Rattle.field.specs.Field.{tagAt}
+use Rattle.field.proofs.Varints.{one-byte}
 use borrow.Author.Needs.{needs}
 use Rattle.field.proofs.tag.tag_at.Statement.{statement}
 use Rattle.field.proofs.tag.tag_at.Tie as tie
@@ -23,7 +21,7 @@ returns : tie.Need-returns
 unfolding tagAt
 returns c = let w = c .before .before in
     let a = w .before .before .before .before .args in
-    c .tag-of .ensures ∙ rw (w .wide .ensures) (ap (λ (x : Varint). tagOf x) (ends (a .s .now) (a .at) 9 (omega arith) (w .before .before .if1 .taken) (omega (arith, w .wide .ensures))))
+    rw (one-byte (a .s .now) (a .at) (w .wide .result) (w .before .before .if1 .taken) (sym (w .wide .ensures)) (c .before .if2 .taken)) (c .tag-of .ensures)
 
 tag-slow-requires : tie.Need-tag-slow-requires
 tag-slow-requires c κs = search needs

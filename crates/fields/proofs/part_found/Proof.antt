@@ -1,8 +1,8 @@
 use mathlib.Core.Path.{sym, _∙_}
-use Rattle.plain.specs.Plain.{Finds}
+use Rattle.fields.specs.Lengths.{foundOf}
 use borrow.Author.Needs.{needs}
-use Rattle.plain.proofs.part_found.Statement.{statement}
-use Rattle.plain.proofs.part_found.Tie as tie
+use Rattle.fields.proofs.part_found.Statement.{statement}
+use Rattle.fields.proofs.part_found.Tie as tie
 
 part-at-requires : tie.Need-part-at-requires
 part-at-requires c κs = search needs
@@ -20,20 +20,20 @@ enum-told-3 : tie.Need-enum-told-3
 enum-told-3 c = search needs
 
 returns : tie.Need-returns
-unfolding Finds
-returns c = sym (c .before .before .before .part-at .ensures) ∙ c .before .start .given .1
+unfolding foundOf
+returns c = rw (sym (c .before .before .before .part-at .ensures) ∙ c .before .start .given .1)
 
 returns-2 : tie.Need-returns-2
-unfolding Finds
-returns-2 c = tt
+unfolding foundOf
+returns-2 c = rw (sym (c .before .before .part-at .ensures) ∙ c .enum-told .given .1)
 
 returns-3 : tie.Need-returns-3
-unfolding Finds
-returns-3 c = tt
+unfolding foundOf
+returns-3 c = rw (sym (c .before .before .part-at .ensures) ∙ c .enum-told2 .given .1)
 
 returns-4 : tie.Need-returns-4
-unfolding Finds
-returns-4 c = tt
+unfolding foundOf
+returns-4 c = rw (sym (c .before .before .part-at .ensures) ∙ c .enum-told3 .given .1)
 
 pub part-found-spec : {M : Type 1} → statement M
 part-found-spec =
