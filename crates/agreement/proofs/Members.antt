@@ -11,8 +11,8 @@ use Rattle.schema.specs.Schema.{ClientMessage}
 use Rattle.encoding.specs.Check.{checkOf}
 use Rattle.fields.specs.Fields.{among}
 use Rattle.fields.specs.Items.{Item, none, number, bytes, items, lastFrom, lastItem}
-use Rattle.encoding.specs.declared.check.Checked.{Checked}
-use Rattle.encoding.specs.declared.check.Checked.the-variants as checked
+use Rattle.encoding.specs.declared.Checked.{Checked}
+use Rattle.encoding.specs.declared.Checked.the-variants as checked
 use Rattle.message.specs.Message.{Bytes, Client, acceptMsg, rejectMsg, exitMsg, restartMsg, alertMsg, ioBuf, winsizeEvent, suspendEvent, helloMsg, clientMember}
 use Rattle.wire.specs.Read.{Reading, value, refused, after, member, clientMessage}
 

@@ -7,8 +7,8 @@ use Rattle.laws.proofs.Order.{picked}
 use Rattle.schema.specs.Schema.{ClientMessage}
 use Rattle.encoding.specs.Check.{checkOf}
 use Rattle.fields.specs.Items.{Item, none, number, bytes, items, lastItem}
-use Rattle.encoding.specs.declared.check.Checked.{Checked}
-use Rattle.encoding.specs.declared.check.Checked.the-variants as checked
+use Rattle.encoding.specs.declared.Checked.{Checked}
+use Rattle.encoding.specs.declared.Checked.the-variants as checked
 use Rattle.message.specs.Message.{Bytes, Entry}
 use Rattle.wire.specs.Read.{Reading, value, refused, after, member, clientMessage}
 use Rattle.written.proofs.Refusals.{CheckTold, check-told}

@@ -8,9 +8,10 @@ use lib.ListN.{length, getD}
 use lib.Dec.{T, leb, ltb, eqb, lit≤, leb→le, eqb→eq}
 use borrow.Author.Tests.{lt-leb, le-leb, lt-ltb, le-ltb, ne-eqb, eq-eqb, eqb-true, ltb-true}
 use Rattle.laws.specs.Base.{pick, both}
-use Rattle.field.specs.Varint.{varintAt}
+use Rattle.varint.specs.Varint.{varintAt}
 use Rattle.schema.specs.Schema.{kindOf, takes, schema}
-use Rattle.field.specs.Field.{tagAt, partOf, payloadAt}
+use Rattle.field.specs.Field.{partOf, payloadAt}
+use Rattle.tag.specs.Tag.{tagAt}
 use Rattle.encoding.specs.Check.{stepOf, stepAt}
 use Rattle.laws.specs.Base.{part}
 use Rattle.encoding.specs.Check.{checkAt, checkOf}
@@ -18,12 +19,12 @@ use Rattle.fields.specs.Fields.{fieldOf, fieldsAt, among, later, lastOf, lastIn
 use Rattle.walk.specs.Places.{timeIn, ioRead, ioBufferOf}
 use Rattle.client_walk.specs.Client.{memberRead, clientFrom, clientRead, clientOf}
 use Rattle.fields.specs.Fields.{startFrom, endFrom}
-use Rattle.field.specs.declared.tag.Tag.the-variants as tag
-use Rattle.field.specs.declared.payload.Payload.{Payload}
-use Rattle.field.specs.declared.payload.Payload.the-variants as payload
-use Rattle.encoding.specs.declared.check.Step.the-variants as step
-use Rattle.encoding.specs.declared.check.Checked.{Checked}
-use Rattle.encoding.specs.declared.check.Checked.the-variants as checked
+use Rattle.tag.specs.declared.Tag.the-variants as tag
+use Rattle.field.specs.declared.Payload.{Payload}
+use Rattle.field.specs.declared.Payload.the-variants as payload
+use Rattle.encoding.specs.declared.Step.the-variants as step
+use Rattle.encoding.specs.declared.Checked.{Checked}
+use Rattle.encoding.specs.declared.Checked.the-variants as checked
 use Rattle.fields.specs.declared.Field.{Field}
 use Rattle.fields.specs.declared.Field.the-variants as field
 use Rattle.fields.specs.declared.Last.{Last}

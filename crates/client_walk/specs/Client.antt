@@ -9,8 +9,8 @@ use Rattle.encoding.specs.Check.{checkOf}
 use Rattle.fields.specs.Fields.{lastIn}
 use Rattle.fields.specs.declared.Last.{Last}
 use Rattle.fields.specs.declared.Last.the-variants as last
-use Rattle.encoding.specs.declared.check.Checked.{Checked}
-use Rattle.encoding.specs.declared.check.Checked.the-variants as checked
+use Rattle.encoding.specs.declared.Checked.{Checked}
+use Rattle.encoding.specs.declared.Checked.the-variants as checked
 use Rattle.walk.specs.Places.{ioBufferOf}
 use Rattle.walk.specs.declared.io.IoRead.{IoRead}
 use Rattle.walk.specs.declared.io.IoRead.the-variants as ioread

@@ -1,12 +1,12 @@
 // One walk that checks a ClientMessage and collects its member at once.
-use encoding::check::Checked;
-use encoding::check::check;
-use field::payload::Payload;
-use field::payload::payload_at;
-use field::tag::Tag;
-use field::tag::tag_at;
+use encoding::Checked;
+use field::Payload;
+use field::payload_at;
+use message_check::check;
 use schema::kind_of;
 use schema::takes;
+use tag::Tag;
+use tag::tag_at;
 use walk::io::IoRead;
 use walk::io::io_buffer;
 ghost use mathlib.Core.Path.{_≡_};

@@ -16,8 +16,8 @@ use Rattle.schema.specs.Schema.{ClientMessage}
 use Rattle.encoding.specs.Check.{checkOf}
 use Rattle.fields.specs.Fields.{fieldAt, onField, fieldsFrom, fieldsAt, among}
 use Rattle.fields.specs.Items.{Item, none, number, bytes, itemOf, items, lastFrom, lastItem, bytesOf}
-use Rattle.encoding.specs.declared.check.Checked.{Checked}
-use Rattle.encoding.specs.declared.check.Checked.the-variants as checked
+use Rattle.encoding.specs.declared.Checked.{Checked}
+use Rattle.encoding.specs.declared.Checked.the-variants as checked
 use Rattle.fields.specs.declared.Field.{Field}
 use Rattle.fields.specs.declared.Field.the-variants as field
 use Rattle.fields.proofs.Follow.{FieldRead, field-read}

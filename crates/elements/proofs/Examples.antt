@@ -2,8 +2,9 @@
 use mathlib.Core.Path.{_≡_, refl}
 use mathlib.Core.List.{List, [], _∷_}
 use Prim.Native.Nat.{ℕ}
-use Rattle.field.specs.Varint.{varintFrom}
-use Rattle.field.specs.Field.{tagFits, tagOf, tagAt, numberOf, partOf, payloadAt}
+use Rattle.varint.specs.Varint.{varintFrom}
+use Rattle.field.specs.Field.{numberOf, partOf, payloadAt}
+use Rattle.tag.specs.Tag.{tagFits, tagOf, tagAt}
 use Rattle.fields.specs.Fields.{fieldOf, fieldFrom, fieldAt, onField, fieldsFrom, fieldsAt}
 use Rattle.fields.specs.Items.{items, everyBytes}
 use Rattle.elements.specs.Elements.{elementsAt, onVarint, varintsFrom, varintsAt, numbersOf, numbersAt}

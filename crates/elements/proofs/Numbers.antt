@@ -10,13 +10,13 @@ use lib.Dec.{ltb, eqb}
 use borrow.Author.Tests.{lt-ltb, le-ltb}
 use Rattle.laws.specs.Base.{pick, part}
 use Rattle.laws.proofs.Order.{lt-or-le, picked}
-use Rattle.field.specs.Varint.{varintAt}
+use Rattle.varint.specs.Varint.{varintAt}
 use Rattle.fields.specs.Fields.{fieldAt, onField, fieldsAt}
 use Rattle.fields.specs.Items.{number, bytes, itemOf, items}
 use Rattle.fields.specs.declared.Field.{Field}
-use Rattle.field.specs.declared.varint.Varint.{Varint}
-use Rattle.field.specs.declared.varint.Varint.the-variants.{Value, PastEnd}
-use Rattle.field.proofs.Varints.{past}
+use Rattle.varint.specs.declared.Varint.{Varint}
+use Rattle.varint.specs.declared.Varint.the-variants.{Value, PastEnd}
+use Rattle.varint.proofs.Varints.{past}
 use Rattle.fields.proofs.Reach.{Read, read}
 use Rattle.fields.proofs.Follow.{FieldRead, field-read, follow, none}
 use Rattle.elements.specs.Elements.{itemsAt, onVarint, varintsAt, varints, numbersOf, numbersAt, told}

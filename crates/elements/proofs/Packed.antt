@@ -13,9 +13,9 @@ use borrow.Author.Tests.{lt-ltb, le-ltb}
 use Rattle.laws.proofs.Parts.{part-drop}
 use Rattle.laws.specs.Base.{pick, part}
 use Rattle.laws.proofs.Order.{lt-or-le}
-use Rattle.field.specs.Varint.{above, varintFrom, varintAt}
-use Rattle.field.specs.declared.varint.Varint.{Varint}
-use Rattle.field.specs.declared.varint.Varint.the-variants.{Value, PastEnd, TooLong}
+use Rattle.varint.specs.Varint.{above, varintFrom, varintAt}
+use Rattle.varint.specs.declared.Varint.{Varint}
+use Rattle.varint.specs.declared.Varint.the-variants.{Value, PastEnd, TooLong}
 use Rattle.fields.proofs.Reach.{Read, read}
 use Rattle.elements.specs.Elements.{onVarint, varintsFrom, varintsAt, varints}
 

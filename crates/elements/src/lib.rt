@@ -1,15 +1,15 @@
 // The elements of a message's lists, one after the other. The bytes of a field come by encoding's `next_part`, whose answers
 // proofs/Elements ties to the list of all of them; the numbers of a NumberList come by `next_number`.
-use field::varint::Varint;
-use field::varint::varint_at;
 use fields::Field;
 use fields::field_at;
+use varint::Varint;
+use varint::varint_at;
 ghost use mathlib.Core.Path.{_≡_};
 ghost use lib.ListN.{take};
 ghost use lib.Dec.{ltb, eqb};
 ghost use Rattle.laws.specs.Base.{pick};
-ghost use Rattle.field.specs.Varint.{varintAt};
-ghost use Rattle.field.specs.declared.varint.Varint.the-variants.{PastEnd};
+ghost use Rattle.varint.specs.Varint.{varintAt};
+ghost use Rattle.varint.specs.declared.Varint.the-variants.{PastEnd};
 ghost use Rattle.elements.specs.Elements.{itemsAt, numbersOf, numbersAt, told};
 
 // The next number of a NumberList with the cursor past it: a place, and the end of the packed numbers that it is in.

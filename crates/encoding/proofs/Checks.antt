@@ -11,10 +11,10 @@ use Rattle.laws.specs.Base.{pick}
 use Rattle.encoding.specs.Check.{stepAt}
 use Rattle.laws.specs.Base.{part}
 use Rattle.encoding.specs.Check.{before, onStep, checkFrom, checkAt, checkOf}
-use Rattle.encoding.specs.declared.check.Step.{Step}
-use Rattle.encoding.specs.declared.check.Step.the-variants as step
-use Rattle.encoding.specs.declared.check.Checked.{Checked}
-use Rattle.encoding.specs.declared.check.Checked.the-variants as checked
+use Rattle.encoding.specs.declared.Step.{Step}
+use Rattle.encoding.specs.declared.Step.the-variants as step
+use Rattle.encoding.specs.declared.Checked.{Checked}
+use Rattle.encoding.specs.declared.Checked.the-variants as checked
 use Rattle.laws.proofs.Order.{lt-or-le}
 use Rattle.encoding.proofs.Steps.{StepRead, step-at}
 

@@ -4,19 +4,20 @@ use native.Mathlib.Omega.{arith}
 use mathlib.Core.List.{List}
 use lib.ListN.{length}
 use lib.Dec.{leb, eqb}
-use Rattle.field.specs.Varint.{varintAt}
+use Rattle.varint.specs.Varint.{varintAt}
 use Rattle.schema.specs.Schema.{kindOf, takes}
-use Rattle.field.specs.Field.{tagAt, numberOf}
-use Rattle.field.specs.declared.varint.Varint.{Varint}
-use Rattle.field.specs.declared.varint.Varint.the-variants.{Value, PastEnd, TooLong}
-use Rattle.field.specs.declared.tag.Tag.{Tag}
-use Rattle.field.specs.declared.tag.Tag.the-variants as tag
-use Rattle.field.specs.declared.payload.Payload.{Payload}
-use Rattle.field.specs.declared.payload.Payload.the-variants as payload
+use Rattle.field.specs.Field.{numberOf}
+use Rattle.tag.specs.Tag.{tagAt}
+use Rattle.varint.specs.declared.Varint.{Varint}
+use Rattle.varint.specs.declared.Varint.the-variants.{Value, PastEnd, TooLong}
+use Rattle.tag.specs.declared.Tag.{Tag}
+use Rattle.tag.specs.declared.Tag.the-variants as tag
+use Rattle.field.specs.declared.Payload.{Payload}
+use Rattle.field.specs.declared.Payload.the-variants as payload
 use Rattle.fields.proofs.Reach.{picked, Read, read, TagRead, tag-of, PayloadRead, payload-at}
 use Rattle.encoding.specs.Check.{stepOf, stepFrom, stepAt}
-use Rattle.encoding.specs.declared.check.Step.{Step}
-use Rattle.encoding.specs.declared.check.Step.the-variants as step
+use Rattle.encoding.specs.declared.Step.{Step}
+use Rattle.encoding.specs.declared.Step.the-variants as step
 
 module _ (s : List ℕ) where
   -- a field at `at`: the next one is past it, an embedded message too, and a refusal's place is within

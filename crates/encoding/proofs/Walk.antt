@@ -8,24 +8,25 @@ use lib.ListN.{length}
 use lib.Dec.{leb, ltb, eqb}
 use borrow.Author.Tests.{lt-leb, le-leb, ne-eqb, eq-eqb, eqb-true, eqb-false, leb-true, leb-false}
 use Rattle.laws.specs.Base.{pick, both}
-use Rattle.field.specs.Varint.{varintAt}
+use Rattle.varint.specs.Varint.{varintAt}
 use Rattle.schema.specs.Schema.{kindOf, takes, schema}
-use Rattle.field.specs.Field.{tagFits, tagOf, tagAt, numberOf, partOf, payloadAt}
+use Rattle.field.specs.Field.{numberOf, partOf, payloadAt}
+use Rattle.tag.specs.Tag.{tagFits, tagOf, tagAt}
 use Rattle.encoding.specs.Check.{stepOf, stepFrom, stepAt}
 use Rattle.laws.specs.Base.{part}
 use Rattle.encoding.specs.Check.{before, onStep, checkAt, checkOf}
 use Rattle.fields.specs.Fields.{fieldOf, fieldFrom, fieldAt, onField, fieldsAt, fieldsOf, among, later, lastOf, lastIn}
 use Rattle.fields.specs.Fields.{numberFrom, numberIn}
-use Rattle.field.specs.declared.varint.Varint.{Varint}
-use Rattle.field.specs.declared.varint.Varint.the-variants.{Value, PastEnd, TooLong}
-use Rattle.field.specs.declared.tag.Tag.{Tag}
-use Rattle.field.specs.declared.tag.Tag.the-variants as tag
-use Rattle.field.specs.declared.payload.Payload.{Payload}
-use Rattle.field.specs.declared.payload.Payload.the-variants as payload
-use Rattle.encoding.specs.declared.check.Step.{Step}
-use Rattle.encoding.specs.declared.check.Step.the-variants as step
-use Rattle.encoding.specs.declared.check.Checked.{Checked}
-use Rattle.encoding.specs.declared.check.Checked.the-variants as checked
+use Rattle.varint.specs.declared.Varint.{Varint}
+use Rattle.varint.specs.declared.Varint.the-variants.{Value, PastEnd, TooLong}
+use Rattle.tag.specs.declared.Tag.{Tag}
+use Rattle.tag.specs.declared.Tag.the-variants as tag
+use Rattle.field.specs.declared.Payload.{Payload}
+use Rattle.field.specs.declared.Payload.the-variants as payload
+use Rattle.encoding.specs.declared.Step.{Step}
+use Rattle.encoding.specs.declared.Step.the-variants as step
+use Rattle.encoding.specs.declared.Checked.{Checked}
+use Rattle.encoding.specs.declared.Checked.the-variants as checked
 use Rattle.fields.specs.declared.Field.{Field}
 use Rattle.fields.specs.declared.Field.the-variants as field
 use Rattle.fields.specs.declared.Last.{Last}

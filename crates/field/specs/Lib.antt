@@ -1,2 +1,1 @@
-pub mod Varint
 pub mod Field

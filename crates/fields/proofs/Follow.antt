@@ -6,16 +6,17 @@ use mathlib.Core.List.{List, [], _∷_}
 use mathlib.Core.Logic.{⊎-elim}
 use lib.ListN.{length}
 use borrow.Author.Tests.{lt-ltb, le-ltb}
-use Rattle.field.specs.Varint.{varintAt}
-use Rattle.field.specs.Field.{tagAt, tagOf, payloadAt}
+use Rattle.varint.specs.Varint.{varintAt}
+use Rattle.field.specs.Field.{payloadAt}
+use Rattle.tag.specs.Tag.{tagAt, tagOf}
 use Rattle.fields.specs.Fields.{fieldOf, fieldFrom, fieldAt, onField, fieldsFrom, fieldsAt, fieldsOf, among, later, lastOf, lastIn, startFrom, endFrom}
 use Rattle.fields.specs.declared.Last.{Last}
 use Rattle.fields.specs.declared.Last.the-variants as last
 use lib.Dec.{ltb}
-use Rattle.field.specs.declared.tag.Tag.{Tag}
-use Rattle.field.specs.declared.tag.Tag.the-variants as tag
-use Rattle.field.specs.declared.payload.Payload.{Payload}
-use Rattle.field.specs.declared.payload.Payload.the-variants as payload
+use Rattle.tag.specs.declared.Tag.{Tag}
+use Rattle.tag.specs.declared.Tag.the-variants as tag
+use Rattle.field.specs.declared.Payload.{Payload}
+use Rattle.field.specs.declared.Payload.the-variants as payload
 use Rattle.fields.specs.declared.Field.{Field}
 use Rattle.fields.specs.declared.Field.the-variants as field
 use Rattle.laws.proofs.Order.{lt-or-le}

@@ -2,10 +2,10 @@
 use Prim.Native.Nat.{ℕ}
 use mathlib.Core.Path.{_≡_, refl, sym, subst, _∙_}
 use mathlib.Core.List.{List}
-use Rattle.field.specs.Varint.{varintAt}
+use Rattle.varint.specs.Varint.{varintAt}
 use Rattle.field.specs.Field.{partOf}
-use Rattle.field.specs.declared.payload.Payload.{Payload}
-use Rattle.field.specs.declared.payload.Payload.the-variants as payload
+use Rattle.field.specs.declared.Payload.{Payload}
+use Rattle.field.specs.declared.Payload.the-variants as payload
 use Rattle.fields.specs.Lengths.{foundOf}
 use Rattle.fields.specs.declared.Found.{Found}
 use Rattle.fields.specs.declared.Found.the-variants as found

@@ -2,8 +2,8 @@
 -- These are inner definitions: they follow the code, and no sentence of document 01. An auditor can skip them, since the contracts
 -- above the short ways do not cite them. What proves them against the general `partOf` (crates/field/specs/Field.antt):
 -- crates/fields/proofs/Lengths.antt: `found-part`.
-use Rattle.field.specs.declared.payload.Payload.{Payload}
-use Rattle.field.specs.declared.payload.Payload.the-variants as payload
+use Rattle.field.specs.declared.Payload.{Payload}
+use Rattle.field.specs.declared.Payload.the-variants as payload
 use Rattle.fields.specs.declared.Found.{Found}
 use Rattle.fields.specs.declared.Found.the-variants as found
 

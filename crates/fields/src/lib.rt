@@ -1,12 +1,12 @@
 // A message's fields, one after the other, and the last of some numbers among them.
-use field::payload::Payload;
-use field::payload::part_at;
-use field::payload::payload_at;
-use field::tag::Tag;
-use field::tag::tag_at;
+use field::Payload;
+use field::part_at;
+use field::payload_at;
+use tag::Tag;
+use tag::tag_at;
 ghost use mathlib.Core.Path.{_≡_};
 ghost use Prim.Native.Nat.{_-_};
-ghost use Rattle.field.specs.Varint.{varintAt};
+ghost use Rattle.varint.specs.Varint.{varintAt};
 ghost use Rattle.field.specs.Field.{partOf};
 ghost use Rattle.fields.specs.Fields.{fieldAt, fieldsAt, lastIn, numberIn, spanIn, firstOf};
 ghost use Rattle.fields.specs.Lengths.{foundOf};

@@ -8,16 +8,17 @@ use lib.ListN.{length, getD}
 use lib.Dec.{T, ltb, leb, eqb, eqb→eq}
 use borrow.Author.Tests.{le-leb, lt-leb, eq-eqb, ltb-true, leb-true, eqb-true}
 use Rattle.laws.specs.Base.{pick, both, part}
-use Rattle.field.specs.Varint.{varintAt}
+use Rattle.varint.specs.Varint.{varintAt}
 use Rattle.schema.specs.Schema.{kindOf, takes, schema}
-use Rattle.field.specs.Field.{tagFits, tagOf, tagAt, partOf, payloadAt}
-use Rattle.field.specs.declared.varint.Varint.{Varint}
-use Rattle.field.specs.declared.varint.Varint.the-variants.{Value}
-use Rattle.field.specs.declared.tag.Tag.the-variants as tag
-use Rattle.field.specs.declared.payload.Payload.the-variants.{Part}
+use Rattle.field.specs.Field.{partOf, payloadAt}
+use Rattle.tag.specs.Tag.{tagFits, tagOf, tagAt}
+use Rattle.varint.specs.declared.Varint.{Varint}
+use Rattle.varint.specs.declared.Varint.the-variants.{Value}
+use Rattle.tag.specs.declared.Tag.the-variants as tag
+use Rattle.field.specs.declared.Payload.the-variants.{Part}
 use Rattle.laws.proofs.Order.{both-true}
 use Rattle.laws.proofs.Parts.{length-part}
-use Rattle.field.proofs.Varints.{one-byte}
+use Rattle.varint.proofs.Varints.{one-byte}
 use Rattle.schema.proofs.Rows.{kinds}
 use Rattle.encoding.proofs.Walk.{lies, tag-is}
 use Rattle.walk.specs.Places.{timeSpecOf, ioBufferOf}

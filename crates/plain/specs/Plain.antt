@@ -10,10 +10,10 @@ use mathlib.Core.Bool.{Bool}
 use lib.ListN.{length, getD}
 use lib.Dec.{ltb, leb, eqb}
 use Rattle.laws.specs.Base.{both}
-use Rattle.field.specs.Varint.{varintAt}
+use Rattle.varint.specs.Varint.{varintAt}
 use Rattle.field.specs.Field.{partOf}
-use Rattle.field.specs.declared.varint.Varint.the-variants.{Value}
-use Rattle.field.specs.declared.payload.Payload.the-variants.{Part}
+use Rattle.varint.specs.declared.Varint.the-variants.{Value}
+use Rattle.field.specs.declared.Payload.the-variants.{Part}
 use Rattle.walk.specs.Places.{timeSpecOf, ioBufferOf}
 use Rattle.client_walk.specs.Client.{clientOf}
 use Rattle.walk.specs.declared.time.TimeRead.the-variants as timeread

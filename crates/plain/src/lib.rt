@@ -2,16 +2,16 @@
 // then the data to the end. That is nearly every message of a session. What is in another form, damaged messages too, takes the walk.
 use client_walk::ClientRead;
 use client_walk::client_walk;
-use field::varint::Varint;
-use field::varint::varint_at;
 use fields::Found;
 use fields::part_found;
 use laws::wide;
+use varint::Varint;
+use varint::varint_at;
 ghost use mathlib.Core.Path.{_≡_};
 ghost use lib.ListN.{length};
-ghost use Rattle.field.specs.Varint.{varintAt};
+ghost use Rattle.varint.specs.Varint.{varintAt};
 ghost use Rattle.field.specs.Field.{partOf};
-ghost use Rattle.field.specs.declared.payload.Payload.the-variants.{Part};
+ghost use Rattle.field.specs.declared.Payload.the-variants.{Part};
 ghost use Rattle.client_walk.specs.Client.{clientOf};
 ghost use Rattle.plain.specs.Plain.{byteIs, isIo, HasTag, Ends, TimeSaid, Tailed, IoSaid, IoTag, ClientSaid};
 

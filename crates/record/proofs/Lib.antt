@@ -2,7 +2,6 @@ pub mod Numbers
 pub mod Records
 pub mod Times
 pub mod Heads
-pub mod Steps
 pub mod Reading
 pub mod Splices
 pub mod Appends

@@ -1,5 +1,4 @@
 pub mod Digits
 pub mod Record
 pub mod File
-pub mod State
-pub mod Walk
+pub mod Head

@@ -15,8 +15,8 @@ use Rattle.frame.specs.Frame.{cutOf}
 use Rattle.frame.specs.declared.Cut.the-variants as cut
 use Rattle.schema.specs.Schema.{schema, kindOf}
 use Rattle.encoding.specs.Check.{checkOf}
-use Rattle.encoding.specs.declared.check.Checked.{Checked}
-use Rattle.encoding.specs.declared.check.Checked.the-variants as checked
+use Rattle.encoding.specs.declared.Checked.{Checked}
+use Rattle.encoding.specs.declared.Checked.the-variants as checked
 use Rattle.fields.specs.Fields.{among}
 use Rattle.fields.specs.Items as i
 use Rattle.fields.specs.Items.{Item, items, lastFrom, lastItem}

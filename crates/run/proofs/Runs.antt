@@ -10,14 +10,15 @@ use borrow.Author.Tests.{lt-ltb, le-ltb}
 use Rattle.laws.specs.Base.{part}
 use Rattle.laws.proofs.Order.{lt-or-le, picked}
 use Rattle.schema.specs.Schema.{InfoMessage}
-use Rattle.field.specs.Field.{tagAt, payloadAt}
+use Rattle.field.specs.Field.{payloadAt}
+use Rattle.tag.specs.Tag.{tagAt}
 use Rattle.encoding.specs.Check.{before, checkOf}
-use Rattle.field.specs.declared.tag.Tag.{Tag}
-use Rattle.field.specs.declared.tag.Tag.the-variants as tag
-use Rattle.field.specs.declared.payload.Payload.{Payload}
-use Rattle.field.specs.declared.payload.Payload.the-variants as payload
-use Rattle.encoding.specs.declared.check.Checked.{Checked}
-use Rattle.encoding.specs.declared.check.Checked.the-variants as checked
+use Rattle.tag.specs.declared.Tag.{Tag}
+use Rattle.tag.specs.declared.Tag.the-variants as tag
+use Rattle.field.specs.declared.Payload.{Payload}
+use Rattle.field.specs.declared.Payload.the-variants as payload
+use Rattle.encoding.specs.declared.Checked.{Checked}
+use Rattle.encoding.specs.declared.Checked.the-variants as checked
 use Rattle.fields.proofs.Reach.{TagRead, tag-at, PayloadRead, payload-at}
 use Rattle.written.specs.Run.{entryOf, entryAt, onEntry, runFrom, runAt}
 

@@ -1,11 +1,11 @@
 // A run of entries, read before it is written: tagged `info_msgs` fields of the message and nothing else.
-use encoding::check::Checked;
-use encoding::check::check;
-use field::payload::Payload;
-use field::payload::payload_at;
-use field::tag::Tag;
-use field::tag::tag_at;
+use encoding::Checked;
+use field::Payload;
+use field::payload_at;
 use limits::entries_fit;
+use message_check::check;
+use tag::Tag;
+use tag::tag_at;
 ghost use mathlib.Core.Path.{_≡_};
 ghost use Rattle.written.specs.Run.{entryAt, runAt, runRefusal};
 

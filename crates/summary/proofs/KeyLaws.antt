@@ -9,7 +9,7 @@ use lib.Dec.{eqb, lit≤}
 use borrow.Author.Tests.{le-leb, ne-eqb, eqb-true}
 use Rattle.laws.specs.Base.{pick, part}
 use Rattle.laws.proofs.Order.{both-true}
-use Rattle.encoding.specs.Entry.{Holds}
+use Rattle.entry.specs.Entry.{Holds}
 use Rattle.fields.specs.Items.{bytes, itemOf, items}
 use Rattle.fields.specs.declared.Field.{Field}
 use Rattle.message.specs.Message.{Bytes, Value, absent, numval, strval, strlistval, numlistval, Entry, entry}

@@ -7,20 +7,21 @@ use mathlib.Core.List.{List, [], _∷_, map}
 use mathlib.Core.Bool.{Bool, true, false}
 use lib.ListN.{length, getD}
 use Rattle.laws.specs.Base.{pick, both, part}
-use Rattle.field.specs.Varint.{varintAt}
-use Rattle.field.specs.Field.{tagOf, numberOf, partOf, payloadAt}
-use Rattle.field.specs.declared.varint.Varint.the-variants.{Value}
-use Rattle.field.specs.declared.tag.Tag.{Tag}
-use Rattle.field.specs.declared.tag.Tag.the-variants as tag
-use Rattle.field.specs.declared.payload.Payload.{Payload}
-use Rattle.field.specs.declared.payload.Payload.the-variants as payload
+use Rattle.varint.specs.Varint.{varintAt}
+use Rattle.field.specs.Field.{numberOf, partOf, payloadAt}
+use Rattle.tag.specs.Tag.{tagOf}
+use Rattle.varint.specs.declared.Varint.the-variants.{Value}
+use Rattle.tag.specs.declared.Tag.{Tag}
+use Rattle.tag.specs.declared.Tag.the-variants as tag
+use Rattle.field.specs.declared.Payload.{Payload}
+use Rattle.field.specs.declared.Payload.the-variants as payload
 use Rattle.fields.specs.Fields.{fieldOf, fieldFrom, fieldAt, onField, fieldsFrom, fieldsAt, among}
 use Rattle.fields.specs.Items as item
 use Rattle.fields.specs.Items.{Item, itemOf, items, lastFrom, lastItem, bytesOf, everyBytes}
 use Rattle.fields.specs.declared.Field.{Field}
 use Rattle.fields.proofs.Reach.{PayloadRead, payload-at}
 use Rattle.fields.proofs.Follow.{follow, none}
-use Rattle.encoding.proofs.Entries.{tagged}
+use Rattle.entry.proofs.Entries.{tagged}
 use Rattle.elements.specs.Elements.{itemsAt}
 use Rattle.message.specs.Signed.{signed, int32, bool}
 use Rattle.message.specs.Message.{Bytes, Entry, timeSpec, timeField, entry, entries, accept}

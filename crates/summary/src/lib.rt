@@ -1,9 +1,9 @@
 // An accept in the form in which clients send it, looked at in one pass: each tag is one byte, each entry a key and one value, each
 // required entry a string. This is a short way. An accept in another form, one that is to be refused too, takes the general one.
-use encoding::entry::Plain;
-use encoding::entry::plain_entry;
-use field::payload::Payload;
-use field::payload::number_at;
+use entry::Plain;
+use entry::plain_entry;
+use field::Payload;
+use field::number_at;
 use fields::Found;
 use fields::part_found;
 use laws::wide;

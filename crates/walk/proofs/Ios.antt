@@ -8,20 +8,21 @@ use lib.ListN.{length, getD}
 use lib.Dec.{T, leb, ltb, eqb, lit≤, ltb→lt}
 use borrow.Author.Tests.{ne-eqb, eqb-true, ltb-true}
 use Rattle.laws.specs.Base.{pick}
-use Rattle.field.specs.Varint.{varintAt}
+use Rattle.varint.specs.Varint.{varintAt}
 use Rattle.schema.specs.Schema.{kindOf, takes, schema}
-use Rattle.field.specs.Field.{tagFits, tagOf, partOf}
+use Rattle.field.specs.Field.{partOf}
+use Rattle.tag.specs.Tag.{tagFits, tagOf}
 use Rattle.encoding.specs.Check.{stepFrom, stepAt}
 use Rattle.laws.specs.Base.{part}
 use Rattle.encoding.specs.Check.{checkAt, checkOf}
 use Rattle.fields.specs.Fields.{fieldOf, fieldsAt, among, later, lastOf, lastIn}
 use Rattle.walk.specs.Places.{timeOf, timeFrom, timeRead, timeSpecOf, ioRead, ioBufferOf}
 use Rattle.fields.specs.Fields.{startFrom, endFrom}
-use Rattle.field.specs.declared.varint.Varint.the-variants.{Value}
-use Rattle.field.specs.declared.payload.Payload.the-variants as payload
-use Rattle.encoding.specs.declared.check.Step.the-variants as step
-use Rattle.encoding.specs.declared.check.Checked.{Checked}
-use Rattle.encoding.specs.declared.check.Checked.the-variants as checked
+use Rattle.varint.specs.declared.Varint.the-variants.{Value}
+use Rattle.field.specs.declared.Payload.the-variants as payload
+use Rattle.encoding.specs.declared.Step.the-variants as step
+use Rattle.encoding.specs.declared.Checked.{Checked}
+use Rattle.encoding.specs.declared.Checked.the-variants as checked
 use Rattle.fields.specs.declared.Field.{Field}
 use Rattle.fields.specs.declared.Field.the-variants as field
 use Rattle.fields.specs.declared.Last.{Last}

@@ -8,20 +8,21 @@ use lib.ListN.{length, getD}
 use lib.Dec.{T, leb, ltb, eqb, lit≤, ltb→lt}
 use borrow.Author.Tests.{lt-leb, ne-eqb, eq-eqb, eqb-true, ltb-true, leb-true}
 use Rattle.laws.specs.Base.{pick}
-use Rattle.field.specs.Varint.{varintAt}
+use Rattle.varint.specs.Varint.{varintAt}
 use Rattle.schema.specs.Schema.{kindOf, takes, schema}
-use Rattle.field.specs.Field.{tagFits, tagOf, payloadAt}
+use Rattle.field.specs.Field.{payloadAt}
+use Rattle.tag.specs.Tag.{tagFits, tagOf}
 use Rattle.encoding.specs.Check.{stepOf, stepFrom, stepAt}
 use Rattle.encoding.specs.Check.{checkAt, checkOf}
 use Rattle.fields.specs.Fields.{fieldOf, fieldsAt, fieldsOf, among, later, lastOf}
 use Rattle.fields.specs.Fields.{numberFrom, numberIn}
 use Rattle.walk.specs.Places.{timeRead, timeSpecOf}
-use Rattle.field.specs.declared.varint.Varint.the-variants.{Value, PastEnd, TooLong}
-use Rattle.field.specs.declared.payload.Payload.{Payload}
-use Rattle.field.specs.declared.payload.Payload.the-variants as payload
-use Rattle.encoding.specs.declared.check.Step.{Step}
-use Rattle.encoding.specs.declared.check.Step.the-variants as step
-use Rattle.encoding.specs.declared.check.Checked.the-variants as checked
+use Rattle.varint.specs.declared.Varint.the-variants.{Value, PastEnd, TooLong}
+use Rattle.field.specs.declared.Payload.{Payload}
+use Rattle.field.specs.declared.Payload.the-variants as payload
+use Rattle.encoding.specs.declared.Step.{Step}
+use Rattle.encoding.specs.declared.Step.the-variants as step
+use Rattle.encoding.specs.declared.Checked.the-variants as checked
 use Rattle.fields.specs.declared.Field.{Field}
 use Rattle.fields.specs.declared.Field.the-variants as field
 use Rattle.fields.specs.declared.Last.{Last}

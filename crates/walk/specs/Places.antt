@@ -8,8 +8,8 @@ use Rattle.encoding.specs.Check.{checkOf}
 use Rattle.fields.specs.Fields.{numberIn, lastIn, startFrom, endFrom}
 use Rattle.fields.specs.declared.Last.{Last}
 use Rattle.fields.specs.declared.Last.the-variants as last
-use Rattle.encoding.specs.declared.check.Checked.{Checked}
-use Rattle.encoding.specs.declared.check.Checked.the-variants as checked
+use Rattle.encoding.specs.declared.Checked.{Checked}
+use Rattle.encoding.specs.declared.Checked.the-variants as checked
 use Rattle.walk.specs.declared.time.Time.{Time}
 use Rattle.walk.specs.declared.time.TimeRead.{TimeRead}
 use Rattle.walk.specs.declared.time.TimeRead.the-variants as timeread

@@ -1,12 +1,12 @@
 // IoBuffer.
 use crate::time::TimeRead;
 use crate::time::time_spec;
-use encoding::check::Step;
-use encoding::check::rest_at;
-use field::payload::Payload;
-use field::payload::part_at;
-use field::varint::Varint;
-use field::varint::varint_at;
+use encoding::Step;
+use encoding::rest_at;
+use field::Payload;
+use field::part_at;
+use varint::Varint;
+use varint::varint_at;
 ghost use mathlib.Core.Path.{_≡_};
 ghost use Rattle.walk.specs.Places.{ioBufferOf};
 

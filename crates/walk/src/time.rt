@@ -1,11 +1,11 @@
 // TimeSpec.
-use encoding::check::Step;
-use encoding::check::rest_at;
-use field::varint::Varint;
-use field::varint::varint_at;
+use encoding::Step;
+use encoding::rest_at;
 use fields::Last;
 use fields::last_in;
 use fields::number_in;
+use varint::Varint;
+use varint::varint_at;
 ghost use mathlib.Core.Path.{_≡_};
 ghost use Rattle.walk.specs.Places.{timeIn, timeSpecOf};
 

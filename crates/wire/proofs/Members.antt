@@ -13,8 +13,8 @@ use Rattle.schema.specs.Schema.{schema, kindOf}
 use Rattle.encoding.specs.Check.{checkOf}
 use Rattle.fields.specs.Fields.{lastIn, startFrom, endFrom}
 use Rattle.fields.specs.Items.{Item, items, lastItem}
-use Rattle.encoding.specs.declared.check.Checked.{Checked}
-use Rattle.encoding.specs.declared.check.Checked.the-variants as checked
+use Rattle.encoding.specs.declared.Checked.{Checked}
+use Rattle.encoding.specs.declared.Checked.the-variants as checked
 use Rattle.fields.specs.declared.Last.{Last}
 use Rattle.fields.specs.declared.Last.the-variants as last
 use Rattle.schema.proofs.Rows.{kinds}

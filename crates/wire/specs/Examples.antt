@@ -7,10 +7,10 @@ use Rattle.laws.specs.Base.{part}
 use Rattle.frame.specs.Frame.{cutOf}
 use Rattle.frame.specs.declared.Cut.{Cut}
 use Rattle.frame.specs.declared.Cut.the-variants as cut
-use Rattle.field.specs.Varint.{varintAt}
+use Rattle.varint.specs.Varint.{varintAt}
 use Rattle.fields.specs.Items.{items}
-use Rattle.field.specs.declared.varint.Varint.{Varint}
-use Rattle.field.specs.declared.varint.Varint.the-variants.{Value, PastEnd, TooLong}
+use Rattle.varint.specs.declared.Varint.{Varint}
+use Rattle.varint.specs.declared.Varint.the-variants.{Value, PastEnd, TooLong}
 use Rattle.message.specs.Signed.{int64, int32}
 use Rattle.message.specs.Message.{TimeSpec, timeSpec, Client, ioBuf, Server, commitPoint}
 use Rattle.wire.specs.Read.{Reading, value, clientMessage, serverMessage}

@@ -7,8 +7,8 @@ use Rattle.laws.specs.Base.{pick}
 use Rattle.schema.specs.Schema.{ClientMessage, ServerMessage}
 use Rattle.encoding.specs.Check.{checkOf}
 use Rattle.fields.specs.Items.{Item, none, number, bytes, items, lastItem}
-use Rattle.encoding.specs.declared.check.Checked.{Checked}
-use Rattle.encoding.specs.declared.check.Checked.the-variants as checked
+use Rattle.encoding.specs.declared.Checked.{Checked}
+use Rattle.encoding.specs.declared.Checked.the-variants as checked
 use Rattle.message.specs.Message.{Client, Server, clientMember, serverMember}
 use Rattle.range.specs.Range.{inRange}
 

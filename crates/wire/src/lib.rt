@@ -1,10 +1,10 @@
 // Reading a message: the refusals in document 01's order, and the members of ClientMessage and ServerMessage. This crate, with
 // `message` for the members' values and `range` for their ranges, is what a session builds on.
 use client_walk::ClientRead;
-use encoding::check::Checked;
-use encoding::check::check;
+use encoding::Checked;
 use fields::Last;
 use fields::last_in;
+use message_check::check;
 use plain::client;
 use range::in_range;
 ghost use mathlib.Core.Path.{_≡_};

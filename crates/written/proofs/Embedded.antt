@@ -11,7 +11,7 @@ use Rattle.schema.specs.Schema.{schema, kindOf, takes}
 use Rattle.fields.specs.Fields.{among}
 use Rattle.fields.specs.Items as i
 use Rattle.fields.specs.Items.{Item, none, items, lastFrom, numberOf, bytesOf, everyBytes}
-use Rattle.encoding.specs.declared.check.Checked.the-variants as checked
+use Rattle.encoding.specs.declared.Checked.the-variants as checked
 use Rattle.elements.specs.Elements.{numbersOf}
 use Rattle.message.specs.Signed.{int64, int32, bool}
 use Rattle.message.specs.Message as m

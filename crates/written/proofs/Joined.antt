@@ -9,7 +9,7 @@ use lib.ListN.{length, length-append}
 use Rattle.encoding.specs.Check.{checkOf}
 use Rattle.fields.specs.Fields.{fieldAt, onField, fieldsAt}
 use Rattle.fields.specs.Items.{Item, bytes, itemOf, items}
-use Rattle.encoding.specs.declared.check.Checked.the-variants as checked
+use Rattle.encoding.specs.declared.Checked.the-variants as checked
 use Rattle.fields.specs.declared.Field.{Field}
 use Rattle.fields.specs.declared.Field.the-variants as field
 use Rattle.fields.proofs.Follow.{FieldRead, field-read, follow, none}

@@ -13,22 +13,23 @@ use borrow.Author.Tests.{le-leb, leb-true}
 use Rattle.laws.specs.Base.{pick, part}
 use Rattle.laws.proofs.Order.{lt-or-le}
 use Rattle.laws.proofs.Parts.{part-part}
-use Rattle.field.specs.Varint.{above, varintFrom, varintAt}
+use Rattle.varint.specs.Varint.{above, varintFrom, varintAt}
 use Rattle.schema.specs.Schema.{kindOf, takes}
-use Rattle.field.specs.Field.{tagFits, tagOf, tagAt, fixedAt, numberOf, partOf, payloadAt}
+use Rattle.field.specs.Field.{fixedAt, numberOf, partOf, payloadAt}
+use Rattle.tag.specs.Tag.{tagFits, tagOf, tagAt}
 use Rattle.encoding.specs.Check.{stepOf, stepFrom, stepAt}
 use Rattle.fields.specs.Fields.{fieldOf, fieldFrom, fieldAt}
-use Rattle.field.specs.declared.varint.Varint.{Varint}
-use Rattle.field.specs.declared.varint.Varint.the-variants.{Value, PastEnd, TooLong}
-use Rattle.field.specs.declared.tag.Tag.{Tag}
-use Rattle.field.specs.declared.tag.Tag.the-variants as tag
-use Rattle.field.specs.declared.payload.Payload.{Payload}
-use Rattle.field.specs.declared.payload.Payload.the-variants as payload
-use Rattle.encoding.specs.declared.check.Step.{Step}
-use Rattle.encoding.specs.declared.check.Step.the-variants as step
+use Rattle.varint.specs.declared.Varint.{Varint}
+use Rattle.varint.specs.declared.Varint.the-variants.{Value, PastEnd, TooLong}
+use Rattle.tag.specs.declared.Tag.{Tag}
+use Rattle.tag.specs.declared.Tag.the-variants as tag
+use Rattle.field.specs.declared.Payload.{Payload}
+use Rattle.field.specs.declared.Payload.the-variants as payload
+use Rattle.encoding.specs.declared.Step.{Step}
+use Rattle.encoding.specs.declared.Step.the-variants as step
 use Rattle.fields.specs.declared.Field.{Field}
 use Rattle.fields.specs.declared.Field.the-variants as field
-use Rattle.field.proofs.Varints.{past, last-fits, last-long, ends, goes-on}
+use Rattle.varint.proofs.Varints.{past, last-fits, last-long, ends, goes-on}
 
 -- s lies in S from place p on
 pub record Lies (S s : List ℕ) (p : ℕ) : Type 0 where

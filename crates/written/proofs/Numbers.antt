@@ -10,15 +10,15 @@ use lib.Seq.{take-length}
 use lib.Dec.{eqb}
 use borrow.Author.Tests.{eqb-true}
 use Rattle.laws.specs.Base.{pick, part}
-use Rattle.field.specs.Varint.{varintFrom, varintAt}
+use Rattle.varint.specs.Varint.{varintFrom, varintAt}
 use Rattle.field.specs.Field.{numberOf}
 use Rattle.encoding.specs.Check.{stepOf, stepAt}
 use Rattle.encoding.specs.Check.{checkOf}
 use Rattle.fields.specs.Items as i
-use Rattle.field.specs.declared.varint.Varint.{Varint}
-use Rattle.field.specs.declared.varint.Varint.the-variants.{Value}
-use Rattle.encoding.specs.declared.check.Step.the-variants as step
-use Rattle.encoding.specs.declared.check.Checked.the-variants as checked
+use Rattle.varint.specs.declared.Varint.{Varint}
+use Rattle.varint.specs.declared.Varint.the-variants.{Value}
+use Rattle.encoding.specs.declared.Step.the-variants as step
+use Rattle.encoding.specs.declared.Checked.the-variants as checked
 use Rattle.fields.proofs.Reach.{Read, read}
 use Rattle.encoding.proofs.Checks.{at-end}
 use Rattle.elements.specs.Elements.{onVarint, varintsFrom, varintsAt, varints, numbersOf}

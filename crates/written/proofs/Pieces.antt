@@ -11,7 +11,7 @@ use Rattle.schema.specs.Schema.{kindOf, takes}
 use Rattle.encoding.specs.Check.{checkOf}
 use Rattle.fields.specs.Items as i
 use Rattle.fields.specs.Items.{Item, itemOf, items}
-use Rattle.encoding.specs.declared.check.Checked.the-variants as checked
+use Rattle.encoding.specs.declared.Checked.the-variants as checked
 use Rattle.encoding.proofs.Checks.{at-end}
 use Rattle.fields.proofs.Follow.{none}
 use Rattle.written.specs.Pieces.{Piece, number, some, bytes, text, list, run, varint, head, elements, encode, encodeAll}

@@ -14,7 +14,7 @@ use Rattle.encoding.specs.Check.{checkOf}
 use Rattle.fields.specs.Fields.{among}
 use Rattle.fields.specs.Items as i
 use Rattle.fields.specs.Items.{Item, items, lastItem, everyBytes}
-use Rattle.encoding.specs.declared.check.Checked.the-variants as checked
+use Rattle.encoding.specs.declared.Checked.the-variants as checked
 use Rattle.message.specs.Message as m
 use Rattle.message.specs.Message.{Bytes, Client, Server, clientMember, serverMember}
 use Rattle.wire.specs.Read.{Reading, value, after, member, clientMessage, serverMessage}

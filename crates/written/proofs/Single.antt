@@ -11,23 +11,24 @@ use lib.Dec.{leb}
 use borrow.Author.Tests.{lt-ltb, le-ltb, le-leb, ne-eqb}
 use Rattle.laws.specs.Base.{pick, part}
 use Rattle.laws.proofs.Order.{lt-or-le}
-use Rattle.field.specs.Varint as r
-use Rattle.field.specs.Varint.{varintAt}
+use Rattle.varint.specs.Varint as r
+use Rattle.varint.specs.Varint.{varintAt}
 use Rattle.schema.specs.Schema.{kindOf, takes}
-use Rattle.field.specs.Field.{tagFits, tagOf, tagAt, numberOf, partOf, payloadAt}
+use Rattle.field.specs.Field.{numberOf, partOf, payloadAt}
+use Rattle.tag.specs.Tag.{tagFits, tagOf, tagAt}
 use Rattle.encoding.specs.Check.{stepOf, stepFrom, stepAt}
 use Rattle.encoding.specs.Check.{checkOf}
 use Rattle.fields.specs.Fields.{fieldOf, fieldFrom, fieldAt, onField, fieldsAt}
 use Rattle.fields.specs.Items.{number, bytes, itemOf, items}
-use Rattle.field.specs.declared.varint.Varint.the-variants.{Value}
-use Rattle.field.specs.declared.tag.Tag.the-variants as tag
-use Rattle.field.specs.declared.payload.Payload.{Payload}
-use Rattle.field.specs.declared.payload.Payload.the-variants as payload
-use Rattle.encoding.specs.declared.check.Step.the-variants as step
-use Rattle.encoding.specs.declared.check.Checked.the-variants as checked
+use Rattle.varint.specs.declared.Varint.the-variants.{Value}
+use Rattle.tag.specs.declared.Tag.the-variants as tag
+use Rattle.field.specs.declared.Payload.{Payload}
+use Rattle.field.specs.declared.Payload.the-variants as payload
+use Rattle.encoding.specs.declared.Step.the-variants as step
+use Rattle.encoding.specs.declared.Checked.the-variants as checked
 use Rattle.fields.specs.declared.Field.{Field}
 use Rattle.fields.specs.declared.Field.the-variants as field
-use Rattle.field.proofs.Varints.{last-fits, ends, goes-on, lim}
+use Rattle.varint.proofs.Varints.{last-fits, ends, goes-on, lim}
 use Rattle.fields.proofs.Reach.{TagRead, tag-at}
 use Rattle.fields.proofs.Follow.{follow, none}
 use Rattle.written.specs.Pieces as w

@@ -13,7 +13,7 @@ use Rattle.schema.specs.Schema.{kindOf, takes, message, ClientMessage, TimeSpec
 use Rattle.encoding.specs.Check.{checkOf}
 use Rattle.fields.specs.Items as i
 use Rattle.fields.specs.Items.{Item, items}
-use Rattle.encoding.specs.declared.check.Checked.the-variants as checked
+use Rattle.encoding.specs.declared.Checked.the-variants as checked
 use Rattle.message.specs.Signed.{int64}
 use Rattle.message.specs.Message as m
 use Rattle.message.specs.Message.{Bytes, clientMember}

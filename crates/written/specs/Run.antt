@@ -8,15 +8,16 @@ use lib.ListN.{length}
 use lib.Dec.{ltb, eqb}
 use Rattle.laws.specs.Base.{pick, part}
 use Rattle.schema.specs.Schema.{InfoMessage}
-use Rattle.field.specs.Field.{tagAt, payloadAt}
+use Rattle.field.specs.Field.{payloadAt}
+use Rattle.tag.specs.Tag.{tagAt}
 use Rattle.encoding.specs.Check.{before, checkOf}
 use Rattle.fields.specs.Items.{items}
-use Rattle.field.specs.declared.tag.Tag.{Tag}
-use Rattle.field.specs.declared.tag.Tag.the-variants as tag
-use Rattle.field.specs.declared.payload.Payload.{Payload}
-use Rattle.field.specs.declared.payload.Payload.the-variants as payload
-use Rattle.encoding.specs.declared.check.Checked.{Checked}
-use Rattle.encoding.specs.declared.check.Checked.the-variants as checked
+use Rattle.tag.specs.declared.Tag.{Tag}
+use Rattle.tag.specs.declared.Tag.the-variants as tag
+use Rattle.field.specs.declared.Payload.{Payload}
+use Rattle.field.specs.declared.Payload.the-variants as payload
+use Rattle.encoding.specs.declared.Checked.{Checked}
+use Rattle.encoding.specs.declared.Checked.the-variants as checked
 use Rattle.message.specs.Message.{entries}
 use Rattle.limits.specs.Limits.{entriesFit}
 use Rattle.wire.specs.Read.{checkNumber}

@@ -1,7 +1,7 @@
 use Rattle.plain.proofs.Plains.{tag-there}
 use Prim.Native.Nat.{ℕ}
 use mathlib.Core.Path.{ap}
-use Rattle.field.specs.declared.varint.Varint.the-variants.{Value}
+use Rattle.varint.specs.declared.Varint.the-variants.{Value}
 use native.Mathlib.Omega.{arith}
 use mathlib.Core.Path.{sym, subst, _∙_}
 use Rattle.plain.specs.Plain.{Ends}

@@ -3,7 +3,7 @@ use mathlib.Core.Path.{sym, _∙_}
 use Rattle.plain.specs.Plain.{ClientSaid}
 use Prim.Native.Nat.{_<_}
 use lib.ListN.{length}
-use Rattle.field.proofs.Varints.{one-byte}
+use Rattle.varint.proofs.Varints.{one-byte}
 use Rattle.fields.proofs.Lengths.{found-part}
 use Rattle.plain.proofs.Plains.{io-tag}
 use borrow.Author.Needs.{needs}

@@ -1,9 +1,9 @@
 use Rattle.run.proofs.Runs.{Reached, reached, run-next, run-end}
 use Rattle.written.specs.Run.{onEntry, runAt}
 use Rattle.encoding.proofs.Checks.{Placed, placed}
-use Rattle.encoding.specs.declared.check.Checked.{Checked}
-use Rattle.field.specs.declared.payload.Payload.the-variants as payload
-use Rattle.field.specs.declared.payload.Payload.{Payload}
+use Rattle.encoding.specs.declared.Checked.{Checked}
+use Rattle.field.specs.declared.Payload.the-variants as payload
+use Rattle.field.specs.declared.Payload.{Payload}
 use Rattle.encoding.specs.Check.{before}
 use Rattle.laws.proofs.Parts.{length-part}
 use Rattle.laws.specs.Base.{part}

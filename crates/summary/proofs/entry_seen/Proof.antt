@@ -1,5 +1,5 @@
 use mathlib.Core.Path.{refl, subst}
-use Rattle.encoding.specs.Entry.{Formed}
+use Rattle.entry.specs.Entry.{Formed}
 use Rattle.fields.specs.Fields.{among}
 use Rattle.fields.specs.Items.{lastFrom, bytesOf}
 use Rattle.message.specs.Message.{entry, valueOf}

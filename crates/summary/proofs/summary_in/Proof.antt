@@ -4,7 +4,7 @@ use mathlib.Core.Path.{refl, sym, subst, _∙_}
 use lib.ListN.{length}
 use lib.Dec.{lit≤}
 use borrow.Author.Needs.{needs}
-use Rattle.field.specs.Field.{tagFits, tagOf}
+use Rattle.tag.specs.Tag.{tagFits, tagOf}
 use Rattle.fields.proofs.Lengths.{found-part}
 use Rattle.message.specs.Signed.{bool}
 use Rattle.summary.specs.Summary.{EntrySeen, Summarised}

@@ -4,7 +4,7 @@ use Prim.Native.Nat.{ℕ, _-_}
 use mathlib.Core.Path.{_≡_, refl, sym, subst, _∙_}
 use mathlib.Core.List.{List}
 use lib.ListN.{length}
-use Rattle.field.specs.Field.{tagOf}
+use Rattle.tag.specs.Tag.{tagOf}
 use Rattle.laws.specs.Base.{part}
 use Rattle.encoding.specs.Check.{checkOf}
 use Rattle.walk.specs.Places.{timeOf}

@@ -3,7 +3,7 @@ use native.Mathlib.Omega.{arith}
 use Prim.Native.Nat.{_-_}
 use mathlib.Core.Path.{_≡_, refl, sym, _∙_}
 use lib.ListN.{length}
-use Rattle.field.specs.Field.{tagOf}
+use Rattle.tag.specs.Tag.{tagOf}
 use Rattle.encoding.proofs.Walk.{no-tag, rest-stops}
 use Rattle.walk.proofs.Times.{Going, start, finish, stop, second, nano, second-past, second-long, nano-past, nano-long, rest, no-inside}
 use Rattle.walk.proofs.time.time_spec.Statement.{statement}
