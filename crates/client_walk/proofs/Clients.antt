@@ -1,16 +1,16 @@
 -- The walk over a client message: what holds at each field.
-use Prim.Native.Nat.{ℕ, zero, suc, _+_, _-_, _*_, _/_, _%_, _≤_, _<_}
+use Prim.Native.Nat.{ℕ, _+_, _-_, _≤_, _<_}
 use native.Mathlib.Omega.{arith}
-use mathlib.Core.Path.{_≡_, refl, sym, subst, ap, _∙_}
-use mathlib.Core.List.{List, [], _∷_}
+use mathlib.Core.Path.{_≡_, refl, sym, _∙_}
+use mathlib.Core.List.{List}
 use mathlib.Core.Bool.{Bool, true, false}
-use lib.ListN.{length, getD}
-use lib.Dec.{T, leb, ltb, eqb, lit≤, leb→le, eqb→eq}
-use borrow.Author.Tests.{lt-leb, le-leb, lt-ltb, le-ltb, ne-eqb, eq-eqb, eqb-true, ltb-true}
+use lib.ListN.{length}
+use lib.Dec.{T, leb, eqb, leb→le, eqb→eq}
+use borrow.Author.Tests.{lt-leb, le-leb, ne-eqb, eq-eqb, eqb-true}
 use Rattle.laws.specs.Base.{pick, both}
 use Rattle.varint.specs.Varint.{varintAt}
 use Rattle.schema.specs.Schema.{kindOf, takes, schema}
-use Rattle.field.specs.Field.{partOf, payloadAt}
+use Rattle.field.specs.Field.{payloadAt}
 use Rattle.tag.specs.Tag.{tagAt}
 use Rattle.encoding.specs.Check.{stepOf, stepAt}
 use Rattle.laws.specs.Base.{part}
@@ -36,7 +36,7 @@ use Rattle.client_walk.specs.declared.ClientRead.the-variants as client
 use Rattle.encoding.proofs.Checks.{at-end}
 use Rattle.fields.proofs.Follow.{none, span-lies}
 use Rattle.schema.proofs.Rows.{kinds}
-use Rattle.encoding.proofs.Walk.{On, leads-on, ends-at, outside, inside-on, inside-stops, no-number, field-leads, field-inside, field-part, field-stops}
+use Rattle.encoding.proofs.Walk.{On, leads-on, ends-at, outside, inside-on, inside-stops, no-number, field-leads, field-inside, field-part}
 
 -- what an I/O buffer's walk says of its check and where its data lies
 pub io-fine : (c : Checked) (t : Time) (l : Last) (x y b d : ℕ) → ioRead c t l ≡ ioread.Fine x y b d → (c ≡ checked.Fine) × (startFrom l ≡ b) × (endFrom l ≡ d)

@@ -1,16 +1,14 @@
 -- Laws of `checkAt`: how it goes on at a place, and that a refusal's place is within the list.
 use Prim.Native.Nat.{ℕ, zero, suc, _+_, _-_, _≤_, _<_}
 use native.Mathlib.Omega.{arith}
-use mathlib.Core.Path.{_≡_, refl, sym, subst, ap, _∙_}
+use mathlib.Core.Path.{_≡_, refl, sym, subst, _∙_}
 use mathlib.Core.List.{List}
 use mathlib.Core.Logic.{⊎-elim}
-use lib.ListN.{length, take, drop, length-take, length-drop}
-use lib.Dec.{ltb}
+use lib.ListN.{length, length-take, length-drop}
 use borrow.Author.Tests.{lt-ltb, le-ltb}
-use Rattle.laws.specs.Base.{pick}
 use Rattle.encoding.specs.Check.{stepAt}
 use Rattle.laws.specs.Base.{part}
-use Rattle.encoding.specs.Check.{before, onStep, checkFrom, checkAt, checkOf}
+use Rattle.encoding.specs.Check.{before, onStep, checkFrom, checkAt}
 use Rattle.encoding.specs.declared.Step.{Step}
 use Rattle.encoding.specs.declared.Step.the-variants as step
 use Rattle.encoding.specs.declared.Checked.{Checked}

@@ -1,22 +1,22 @@
 -- One walk that checks a message and keeps the last values: what a field changes.
-use Prim.Native.Nat.{ℕ, zero, suc, _+_, _-_, _*_, _/_, _%_, _≤_, _<_}
+use Prim.Native.Nat.{ℕ, _+_, _-_, _/_, _%_, _≤_, _<_}
 use native.Mathlib.Omega.{arith}
-use mathlib.Core.Path.{_≡_, refl, sym, subst, ap, _∙_}
+use mathlib.Core.Path.{_≡_, refl, subst, ap, _∙_}
 use mathlib.Core.List.{List, [], _∷_}
 use mathlib.Core.Bool.{Bool, true, false}
 use lib.ListN.{length}
-use lib.Dec.{leb, ltb, eqb}
-use borrow.Author.Tests.{lt-leb, le-leb, ne-eqb, eq-eqb, eqb-true, eqb-false, leb-true, leb-false}
+use lib.Dec.{leb, eqb}
+use borrow.Author.Tests.{lt-leb, le-leb, ne-eqb, eqb-true, eqb-false, leb-true, leb-false}
 use Rattle.laws.specs.Base.{pick, both}
 use Rattle.varint.specs.Varint.{varintAt}
-use Rattle.schema.specs.Schema.{kindOf, takes, schema}
+use Rattle.schema.specs.Schema.{kindOf, takes}
 use Rattle.field.specs.Field.{numberOf, partOf, payloadAt}
 use Rattle.tag.specs.Tag.{tagFits, tagOf, tagAt}
 use Rattle.encoding.specs.Check.{stepOf, stepFrom, stepAt}
 use Rattle.laws.specs.Base.{part}
 use Rattle.encoding.specs.Check.{before, onStep, checkAt, checkOf}
-use Rattle.fields.specs.Fields.{fieldOf, fieldFrom, fieldAt, onField, fieldsAt, fieldsOf, among, later, lastOf, lastIn}
-use Rattle.fields.specs.Fields.{numberFrom, numberIn}
+use Rattle.fields.specs.Fields.{fieldOf, fieldFrom, fieldAt, onField, fieldsAt, among, later, lastOf}
+use Rattle.fields.specs.Fields.{numberFrom}
 use Rattle.varint.specs.declared.Varint.{Varint}
 use Rattle.varint.specs.declared.Varint.the-variants.{Value, PastEnd, TooLong}
 use Rattle.tag.specs.declared.Tag.{Tag}
@@ -25,15 +25,14 @@ use Rattle.field.specs.declared.Payload.{Payload}
 use Rattle.field.specs.declared.Payload.the-variants as payload
 use Rattle.encoding.specs.declared.Step.{Step}
 use Rattle.encoding.specs.declared.Step.the-variants as step
-use Rattle.encoding.specs.declared.Checked.{Checked}
 use Rattle.encoding.specs.declared.Checked.the-variants as checked
 use Rattle.fields.specs.declared.Field.{Field}
 use Rattle.fields.specs.declared.Field.the-variants as field
 use Rattle.fields.specs.declared.Last.{Last}
 use Rattle.fields.specs.declared.Last.the-variants as last
 use Rattle.encoding.proofs.Steps.{StepRead, step-at}
-use Rattle.encoding.proofs.Checks.{next, at-end}
-use Rattle.fields.proofs.Follow.{follow, none}
+use Rattle.encoding.proofs.Checks.{next}
+use Rattle.fields.proofs.Follow.{follow}
 
 -- from f to f is f alone
 pub alone : (f g : ℕ) → among f f g ≡ eqb g f

@@ -1,7 +1,7 @@
 -- The form in which clients send an entry (an InfoMessage): the key, then one value, and nothing else. It has a short way.
 -- These are inner definitions: they follow the code, and no sentence of document 01. An auditor can skip them, since the contract of
--- `check` (crates/encoding/src/check.rt) is the general `checkOf` (crates/encoding/specs/Check.antt). What proves them against it:
--- crates/encoding/proofs/Entries.antt: `key-there`, `numbered`, `text`, `texts`, `numbers`.
+-- `check` (crates/message_check/src/lib.rt) is the general `checkOf` (crates/encoding/specs/Check.antt). What proves them against it:
+-- crates/entry/proofs/Entries.antt: `key-there`, `numbered`, `text`, `texts`, `numbers`.
 use Prim.Native.Nat.{ℕ, _+_, _≤_}
 use mathlib.Core.Path.{_≡_}
 use mathlib.Core.List.{List, [], _∷_}

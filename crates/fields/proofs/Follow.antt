@@ -1,14 +1,13 @@
 -- Laws of `fieldsAt`: how it goes on at a place.
-use Prim.Native.Nat.{ℕ, zero, suc, _+_, _-_, _≤_, _<_}
+use Prim.Native.Nat.{ℕ, zero, suc, _-_, _≤_, _<_}
 use native.Mathlib.Omega.{arith}
-use mathlib.Core.Path.{_≡_, refl, sym, subst, ap, _∙_}
+use mathlib.Core.Path.{_≡_, refl, sym, ap, _∙_}
 use mathlib.Core.List.{List, [], _∷_}
 use mathlib.Core.Logic.{⊎-elim}
 use lib.ListN.{length}
 use borrow.Author.Tests.{lt-ltb, le-ltb}
-use Rattle.varint.specs.Varint.{varintAt}
 use Rattle.field.specs.Field.{payloadAt}
-use Rattle.tag.specs.Tag.{tagAt, tagOf}
+use Rattle.tag.specs.Tag.{tagAt}
 use Rattle.fields.specs.Fields.{fieldOf, fieldFrom, fieldAt, onField, fieldsFrom, fieldsAt, fieldsOf, among, later, lastOf, lastIn, startFrom, endFrom}
 use Rattle.fields.specs.declared.Last.{Last}
 use Rattle.fields.specs.declared.Last.the-variants as last

@@ -1,6 +1,6 @@
 -- The last field of some numbers, by its place, is the last item of these numbers, by what it holds.
 use Prim.Native.Nat.{ℕ}
-use mathlib.Core.Path.{_≡_, refl, sym, ap, _∙_}
+use mathlib.Core.Path.{_≡_, refl, ap, _∙_}
 use mathlib.Core.List.{List, [], _∷_, map}
 use mathlib.Core.Bool.{Bool, true, false}
 use Rattle.laws.specs.Base.{pick, part}

@@ -1,6 +1,6 @@
 -- A message's fields by what they hold, without their places: what the messages' values are made of.
 use Prim.Native.Nat.{ℕ}
-use mathlib.Core.List.{List, [], _∷_, _++_, map}
+use mathlib.Core.List.{List, [], _∷_, map}
 use lib.Dec.{eqb}
 use Rattle.laws.specs.Base.{pick, part}
 use Rattle.fields.specs.Fields.{fieldsOf, among}

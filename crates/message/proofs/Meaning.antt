@@ -1,15 +1,14 @@
 -- The values at the readers' places are those of the message's items.
 use Prim.Native.Nat.{ℕ}
-use mathlib.Core.Path.{_≡_, refl, sym, ap, _∙_}
+use mathlib.Core.Path.{_≡_, refl, ap, _∙_}
 use mathlib.Core.List.{List, []}
 use Rattle.laws.specs.Base.{part}
-use Rattle.fields.specs.Fields.{lastIn, numberIn, fieldsAt, fieldsFrom}
-use Rattle.fields.specs.Items.{Item, items, lastItem, lastFrom, numberOf, bytesOf}
+use Rattle.fields.specs.Fields.{lastIn, fieldsAt, fieldsFrom}
+use Rattle.fields.specs.Items.{Item, items, lastFrom, numberOf, bytesOf}
 use Rattle.fields.specs.declared.Last.{Last}
 use Rattle.fields.specs.declared.Last.the-variants as last
 use Rattle.fields.proofs.Items.{contentOf, last-means, number-means}
 use Rattle.walk.specs.Places.{timeOf, timeFrom, timeIn}
-use Rattle.message.specs.Signed.{int64, int32}
 use Rattle.message.specs.Message.{timeSpec, timeField}
 use Rattle.message.specs.Places.{timeValue}
 

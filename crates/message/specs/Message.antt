@@ -6,7 +6,7 @@ use mathlib.Core.List.{List, map}
 use mathlib.Core.Bool.{Bool}
 use lib.IntN.{ℤ}
 use lib.Dec.{leb, eqb}
-use Rattle.laws.specs.Base.{pick, both}
+use Rattle.laws.specs.Base.{pick}
 use Rattle.fields.specs.Items.{Item, none, number, bytes, items, lastItem, numberOf, bytesOf, everyBytes}
 use Rattle.elements.specs.Elements.{numbersOf}
 use Rattle.message.specs.Signed.{int64, int32, bool}

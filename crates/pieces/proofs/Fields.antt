@@ -2,13 +2,12 @@
 use mathlib.Core.Path.{_≡_, refl, sym, ap, _∙_}
 use Prim.Native.Nat.{ℕ, _+_, _*_, _≤_}
 use native.Mathlib.Omega.{arith}
-use mathlib.Core.List.{List, [], _∷_, _++_}
+use mathlib.Core.List.{List, [], _++_}
 use mathlib.Core.Bool.{Bool, true, false}
 use lib.ListN.{length, length-append}
 use lib.Dec.{eqb}
 use borrow.Author.Tests.{eq-eqb, ne-eqb, eqb-true, eqb-false}
-use Rattle.laws.specs.Base.{pick}
-use Rattle.written.specs.Pieces.{Piece, number, some, bytes, text, encode, varint, head}
+use Rattle.written.specs.Pieces.{some, text, encode, varint, head}
 use Rattle.written.specs.Draft.{Stamp, time}
 use Rattle.pieces.specs.Put.{numberPiece, leftOut, timePiece, cover}
 

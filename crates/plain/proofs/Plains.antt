@@ -1,18 +1,17 @@
 -- The short ways: each says what the walk over the same fields says.
-use Prim.Native.Nat.{ℕ, _+_, _*_, _/_, _%_, _≤_, _<_}
+use Prim.Native.Nat.{ℕ, _+_, _/_, _%_, _≤_, _<_}
 use native.Mathlib.Omega.{arith}
 use mathlib.Core.Path.{_≡_, refl, sym, subst, _∙_}
 use mathlib.Core.List.{List}
-use mathlib.Core.Bool.{Bool, true, false}
+use mathlib.Core.Bool.{Bool, true}
 use lib.ListN.{length, getD}
 use lib.Dec.{T, ltb, leb, eqb, eqb→eq}
-use borrow.Author.Tests.{le-leb, lt-leb, eq-eqb, ltb-true, leb-true, eqb-true}
+use borrow.Author.Tests.{le-leb, lt-leb, ltb-true, leb-true, eqb-true}
 use Rattle.laws.specs.Base.{pick, both, part}
 use Rattle.varint.specs.Varint.{varintAt}
 use Rattle.schema.specs.Schema.{kindOf, takes, schema}
 use Rattle.field.specs.Field.{partOf, payloadAt}
 use Rattle.tag.specs.Tag.{tagFits, tagOf, tagAt}
-use Rattle.varint.specs.declared.Varint.{Varint}
 use Rattle.varint.specs.declared.Varint.the-variants.{Value}
 use Rattle.tag.specs.declared.Tag.the-variants as tag
 use Rattle.field.specs.declared.Payload.the-variants.{Part}
@@ -21,8 +20,6 @@ use Rattle.laws.proofs.Parts.{length-part}
 use Rattle.varint.proofs.Varints.{one-byte}
 use Rattle.schema.proofs.Rows.{kinds}
 use Rattle.encoding.proofs.Walk.{lies, tag-is}
-use Rattle.walk.specs.Places.{timeSpecOf, ioBufferOf}
-use Rattle.client_walk.specs.Client.{clientOf}
 use Rattle.plain.specs.Plain.{byteIs, isIo, HasTag, Ends, TimeSaid, Tailed, IoSaid, IoTag, ClientSaid, withData}
 use Rattle.plain.specs.declared.Ending.{Ending}
 use Rattle.plain.specs.declared.Ending.the-variants as ending
@@ -33,7 +30,6 @@ use Rattle.plain.specs.declared.Tail.the-variants as tail
 use Rattle.plain.specs.declared.PlainIo.{PlainIo}
 use Rattle.plain.specs.declared.PlainIo.the-variants as io
 use Rattle.plain.specs.declared.PlainClient.the-variants as client
-use Rattle.client_walk.specs.declared.ClientRead.{ClientRead}
 use Rattle.client_walk.specs.declared.ClientRead.the-variants as clientread
 use Rattle.walk.proofs.Times as times
 use Rattle.walk.proofs.Ios as ios

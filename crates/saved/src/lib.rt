@@ -1,6 +1,7 @@
 // A session kept as 40 bytes in a slice that the host lends, so that a host in C carries it from call to call.
 use numbers::lay_five;
 use numbers::number_at;
+use record::LIMIT;
 use session::Mark;
 use session::Session;
 use session::State;
@@ -12,8 +13,6 @@ ghost use Rattle.laws.specs.Base.{pick, both};
 ghost use Rattle.record.specs.File.{limit};
 ghost use Rattle.saved.specs.Saved as s;
 ghost use Rattle.saved.specs.Saved.{stateNumber, markNumber, markPoint, sessionOf, stateOf, markOf, areSession, fromNumbers, kept};
-
-const LIMIT: u64 = 4294967295999999999;
 
 // ---- from a session to its numbers
 

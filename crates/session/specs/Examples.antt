@@ -1,14 +1,13 @@
 -- Document 01's ten marked examples, gathered under one statement: each is shown of the definitions.
 use Prim.Native.Nat.{ℕ}
 use mathlib.Core.Path.{_≡_}
-use mathlib.Core.List.{List, [], _∷_}
+use mathlib.Core.List.{[], _∷_}
 use lib.ListN.{replicate}
 use Rattle.laws.specs.Base.{part}
 use Rattle.message.specs.Message.{Bytes}
 use Rattle.wire.specs.Examples.{ReadingExamples}
-use Rattle.record.specs.Record.{Record, recordBytes}
+use Rattle.record.specs.Record.{recordBytes}
 use Rattle.session.specs.Step.{Outcome, newSession, step, tick}
-use Rattle.session.specs.declared.Point.{Point}
 use Rattle.session.specs.declared.Point.the-variants as point
 
 -- ---- messages, as ClientMessages

@@ -1,7 +1,7 @@
 -- What one pass over an accept in the form that clients send tells. It is said by properties: the pass is a short way to an answer that
 -- the general one, by `bodyFits` and `entriesRefusal`, would give too. Then what is known on the way, an entry after the other.
 -- These are inner definitions: they follow the code, and no sentence of document 01. An auditor can skip them, since the contract of
--- `on_accept` (crates/handlers/src/lib.rt) is the general `onMember` (crates/session/specs/Answer.antt). What proves them against
+-- `on_accept` (crates/handlers/src/lib.rt) is the general `onMember` (crates/session/specs/Step.antt). What proves them against
 -- `bodyFits` and `entriesRefusal`: crates/summary/proofs/KeyLaws.antt: `string-passes`, `other-passes`; Summaries.antt: `finish`.
 use Prim.Native.Nat.{ℕ, _<_}
 use mathlib.Core.Path.{_≡_}

@@ -8,7 +8,7 @@ use mathlib.Core.Bool.{true, false}
 use lib.Dec.{leb}
 use Rattle.numbers.specs.Eight.{laid}
 use Rattle.elements.specs.Elements.{numbersAt}
-use Rattle.values.specs.Answers.{nextAnswer, Laid, NextBuffer}
+use Rattle.values.specs.Answers.{nextAnswer, NextBuffer}
 
 module _ (s : List ℕ) (at end : ℕ) (out : List ℕ) where
   -- the answer r with the buffer left

@@ -1,8 +1,8 @@
 -- A varint read byte by byte: the value so far, and the scale of what follows.
-use Prim.Native.Nat.{ℕ, zero, suc, _+_, _-_, _*_, _^_, _≤_, _<_}
+use Prim.Native.Nat.{ℕ, zero, suc, _+_, _-_, _*_, _^_, _≤_}
 use native.Mathlib.Omega.{arith}
-use native.Mathlib.Nat.{mul-assoc, add-mul, mul-le-mul-left, mul-le-mul-right, mul-one}
-use mathlib.Core.Path.{_≡_, refl, ap}
+use native.Mathlib.Nat.{mul-assoc, add-mul, mul-le-mul-left, mul-le-mul-right}
+use mathlib.Core.Path.{_≡_, refl}
 use lib.Dec.{lit≤}
 use Rattle.varint.specs.Varint.{above}
 use Rattle.varint.specs.declared.Varint.{Varint}

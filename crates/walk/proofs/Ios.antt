@@ -1,12 +1,12 @@
 -- The walk over an I/O buffer: what holds at each field.
-use Prim.Native.Nat.{ℕ, zero, suc, _+_, _-_, _*_, _/_, _%_, _≤_, _<_}
+use Prim.Native.Nat.{ℕ, _+_, _/_, _%_, _≤_, _<_}
 use native.Mathlib.Omega.{arith}
-use mathlib.Core.Path.{_≡_, refl, sym, subst, ap, _∙_}
-use mathlib.Core.List.{List, [], _∷_}
+use mathlib.Core.Path.{_≡_, refl, sym, _∙_}
+use mathlib.Core.List.{List}
 use mathlib.Core.Bool.{Bool, true, false}
-use lib.ListN.{length, getD}
-use lib.Dec.{T, leb, ltb, eqb, lit≤, ltb→lt}
-use borrow.Author.Tests.{ne-eqb, eqb-true, ltb-true}
+use lib.ListN.{length}
+use lib.Dec.{T, ltb, eqb, lit≤, ltb→lt}
+use borrow.Author.Tests.{ne-eqb, eqb-true}
 use Rattle.laws.specs.Base.{pick}
 use Rattle.varint.specs.Varint.{varintAt}
 use Rattle.schema.specs.Schema.{kindOf, takes, schema}

@@ -1,13 +1,12 @@
 -- The walk over a TimeSpec: what holds at each field.
-use Prim.Native.Nat.{ℕ, zero, suc, _+_, _-_, _*_, _/_, _%_, _≤_, _<_}
+use Prim.Native.Nat.{ℕ, _/_, _%_, _≤_, _<_}
 use native.Mathlib.Omega.{arith}
-use mathlib.Core.Path.{_≡_, refl, sym, subst, ap, _∙_}
-use mathlib.Core.List.{List, [], _∷_}
+use mathlib.Core.Path.{_≡_, refl, sym, ap, _∙_}
+use mathlib.Core.List.{List}
 use mathlib.Core.Bool.{Bool, true, false}
-use lib.ListN.{length, getD}
-use lib.Dec.{T, leb, ltb, eqb, lit≤, ltb→lt}
-use borrow.Author.Tests.{lt-leb, ne-eqb, eq-eqb, eqb-true, ltb-true, leb-true}
-use Rattle.laws.specs.Base.{pick}
+use lib.ListN.{length}
+use lib.Dec.{ltb, ltb→lt}
+use borrow.Author.Tests.{lt-leb, ne-eqb, eqb-true}
 use Rattle.varint.specs.Varint.{varintAt}
 use Rattle.schema.specs.Schema.{kindOf, takes, schema}
 use Rattle.field.specs.Field.{payloadAt}
@@ -20,7 +19,6 @@ use Rattle.walk.specs.Places.{timeRead, timeSpecOf}
 use Rattle.varint.specs.declared.Varint.the-variants.{Value, PastEnd, TooLong}
 use Rattle.field.specs.declared.Payload.{Payload}
 use Rattle.field.specs.declared.Payload.the-variants as payload
-use Rattle.encoding.specs.declared.Step.{Step}
 use Rattle.encoding.specs.declared.Step.the-variants as step
 use Rattle.encoding.specs.declared.Checked.the-variants as checked
 use Rattle.fields.specs.declared.Field.{Field}
@@ -32,7 +30,7 @@ use Rattle.encoding.proofs.Checks.{at-end}
 use Rattle.fields.proofs.Follow.{none}
 use Rattle.encoding.proofs.Walk.{alone}
 use Rattle.schema.proofs.Rows.{kinds}
-use Rattle.encoding.proofs.Walk.{Leads, further, checks-on, keeps-on, ends-at, outside, same-number, number-leads, number-past, number-long, Rest, rest-leads}
+use Rattle.encoding.proofs.Walk.{Leads, further, checks-on, keeps-on, ends-at, outside, same-number, number-leads, number-past, number-long, rest-leads}
 
 -- at a place of the walk: the check and the last numbers of the whole are those from here on
 pub record Going (s : List ℕ) (at sec nan : ℕ) : Type 0 where

@@ -1,5 +1,5 @@
 -- The marked examples compute.
-use mathlib.Core.Path.{_≡_, refl}
+use mathlib.Core.Path.{refl}
 use Rattle.frame.specs.Frame.{cutOf, lengthOf}
 use Rattle.varint.specs.Varint.{varintFrom}
 use Rattle.schema.specs.Schema.{schema, kindOf, takes}

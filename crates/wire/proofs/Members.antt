@@ -1,7 +1,7 @@
 -- The answers of the one-walk reader mean what the definitions of a ClientMessage say.
 use Prim.Native.Nat.{ℕ, _+_, _-_, _≤_}
 use native.Mathlib.Omega.{arith}
-use mathlib.Core.Path.{_≡_, refl, sym, ap, _∙_}
+use mathlib.Core.Path.{_≡_, refl, ap, _∙_}
 use mathlib.Core.List.{List}
 use mathlib.Core.Bool.{Bool, true, false}
 use lib.ListN.{length}
@@ -12,7 +12,7 @@ use Rattle.laws.proofs.Parts.{part-part, length-part}
 use Rattle.schema.specs.Schema.{schema, kindOf}
 use Rattle.encoding.specs.Check.{checkOf}
 use Rattle.fields.specs.Fields.{lastIn, startFrom, endFrom}
-use Rattle.fields.specs.Items.{Item, items, lastItem}
+use Rattle.fields.specs.Items.{Item, items}
 use Rattle.encoding.specs.declared.Checked.{Checked}
 use Rattle.encoding.specs.declared.Checked.the-variants as checked
 use Rattle.fields.specs.declared.Last.{Last}
@@ -22,14 +22,13 @@ use Rattle.fields.proofs.Follow.{LastLies, last-in-lies, span-lies}
 use Rattle.fields.proofs.Items.{contentOf, last-means, bytes-means}
 use Rattle.walk.specs.Places.{timeIn, ioRead, ioBufferOf}
 use Rattle.client_walk.specs.Client.{memberRead, clientFrom, clientRead, clientOf}
-use Rattle.walk.specs.declared.time.Time.{Time}
 use Rattle.walk.specs.declared.io.IoRead.the-variants as ioread
 use Rattle.client_walk.specs.declared.ClientRead.{ClientRead}
 use Rattle.client_walk.specs.declared.ClientRead.the-variants as client
-use Rattle.message.specs.Message.{Client, clientMember, ioBuf, timed}
+use Rattle.message.specs.Message.{clientMember, ioBuf, timed}
 use Rattle.message.specs.Places.{timeValue}
 use Rattle.message.proofs.Meaning.{time-means}
-use Rattle.wire.specs.Read.{Reading, value, refused, after, member, clientMessage}
+use Rattle.wire.specs.Read.{value, after, member, clientMessage}
 use Rattle.wire.specs.Places.{clientValue}
 
 -- the members whose message is an IoBuffer are 6 to 10

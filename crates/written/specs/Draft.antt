@@ -1,13 +1,11 @@
 -- The messages as a writer is given them, the pieces that each one is written in, and what each one means.
 -- Numbers are the 64 bits of the argument: of an int64 its two's complement; of the others the number itself, a negative one
 -- being far beyond each range. A run of entries is lent as bytes that were written before.
-use Prim.Native.Nat.{ℕ, _-_}
+use Prim.Native.Nat.{ℕ}
 use mathlib.Core.List.{List, [], _∷_, map}
 use mathlib.Core.Bool.{Bool, true, false, not}
-use lib.IntN.{ℤ}
-use lib.ListN.{length}
-use lib.Dec.{ltb, leb, eqb}
-use Rattle.laws.specs.Base.{pick, both, part}
+use lib.Dec.{ltb, eqb}
+use Rattle.laws.specs.Base.{pick, part}
 use Rattle.fields.specs.Items.{items}
 use Rattle.message.specs.Signed.{int64, int32}
 use Rattle.message.specs.Message as m

@@ -3,7 +3,6 @@
 -- refusal; another field in it is 4 at its tag, ordered by place; otherwise it is copied unchanged."
 use Prim.Native.Nat.{ℕ, zero, suc, _-_}
 use mathlib.Core.List.{List}
-use mathlib.Core.Bool.{Bool}
 use lib.ListN.{length}
 use lib.Dec.{ltb, eqb}
 use Rattle.laws.specs.Base.{pick, part}

@@ -1,5 +1,4 @@
 use mathlib.Core.Path.{ap, _∙_}
-use native.Mathlib.Omega.{arith}
 use Rattle.laws.specs.Base.{splice}
 use Rattle.buffer.proofs.Blocks.{whole}
 use borrow.Author.Needs.{needs}

@@ -1,6 +1,5 @@
 use mathlib.Core.Path.{sym, subst, _∙_}
 use borrow.Author.Tests.{le-leb, lt-leb}
-use native.Mathlib.Omega.{arith}
 use Rattle.field.specs.Field.{partOf}
 use Rattle.varint.proofs.Varints.{Within, within}
 use borrow.Author.Needs.{needs}

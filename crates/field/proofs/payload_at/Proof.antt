@@ -1,6 +1,5 @@
 use mathlib.Core.Path.{_≡_, sym, subst, _∙_}
 use borrow.Author.Tests.{le-leb, lt-leb, ne-eqb, eq-eqb}
-use native.Mathlib.Omega.{arith}
 use Rattle.field.specs.Field.{payloadAt, numberOf, partOf}
 use Rattle.varint.proofs.Varints.{Within, within}
 use borrow.Author.Needs.{needs}

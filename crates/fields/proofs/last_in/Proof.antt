@@ -6,7 +6,6 @@ use Prim.Native.Nat.{_-_, _≤_}
 use lib.ListN.{length}
 use Rattle.fields.specs.Fields.{onField, fieldsAt, later, lastOf, lastIn}
 use Rattle.fields.specs.declared.Field.{Field}
-use Rattle.fields.specs.declared.Last.{Last}
 use Rattle.fields.proofs.Follow.{FieldRead, field-read, follow, none}
 use Rattle.fields.proofs.last_in.Statement.{statement}
 use Rattle.fields.proofs.last_in.Tie as tie

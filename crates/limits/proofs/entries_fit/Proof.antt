@@ -8,7 +8,7 @@ use mathlib.Core.List.{map}
 use Prim.Native.Nat.{_-_}
 use borrow.Author.Needs.{needs}
 use native.Mathlib.Omega.{arith}
-use mathlib.Core.Path.{_≡_, refl, sym, ap, subst, _∙_}
+use mathlib.Core.Path.{_≡_, sym, _∙_}
 use Rattle.limits.proofs.entries_fit.Statement.{statement}
 use Rattle.limits.proofs.entries_fit.Tie as tie
 

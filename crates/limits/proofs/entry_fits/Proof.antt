@@ -1,7 +1,6 @@
 use Rattle.limits.specs.Limits.{entryFits}
 use Rattle.message.specs.Message.{entry}
 use borrow.Author.Tests.{le-leb, lt-leb}
-use mathlib.Core.Path.{_∙_}
 use borrow.Author.Needs.{needs}
 use Rattle.limits.proofs.entry_fits.Statement.{statement}
 use Rattle.limits.proofs.entry_fits.Tie as tie

@@ -1,10 +1,7 @@
 use Rattle.fields.proofs.Follow.{span-lies}
 use Rattle.fields.proofs.Items.{bytes-means}
-use Rattle.fields.specs.Fields.{lastIn, startFrom, endFrom}
 use Rattle.laws.proofs.Parts.{length-part}
-use lib.ListN.{length}
-use native.Mathlib.Omega.{arith}
-use mathlib.Core.Path.{_≡_, refl, sym, ap, subst, _∙_}
+use mathlib.Core.Path.{sym}
 use borrow.Author.Needs.{needs}
 use Rattle.limits.proofs.length_in.Statement.{statement}
 use Rattle.limits.proofs.length_in.Tie as tie

@@ -4,7 +4,6 @@ use Rattle.message.specs.Places.{timeValue}
 use Rattle.message.specs.Signed.{int64}
 use borrow.Author.Tests.{le-leb, lt-leb}
 use lib.Dec.{lit≤}
-use mathlib.Core.Path.{sym, _∙_}
 use borrow.Author.Needs.{needs}
 use Rattle.limits.proofs.moment_fits.Statement.{statement}
 use Rattle.limits.proofs.moment_fits.Tie as tie

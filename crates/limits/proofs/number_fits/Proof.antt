@@ -2,7 +2,7 @@ use Rattle.limits.proofs.Signs.{up-to}
 use Rattle.fields.proofs.Items.{number-means}
 use Rattle.message.specs.Signed.{int32}
 use Prim.Native.Nat.{_%_}
-use mathlib.Core.Path.{sym, _∙_}
+use mathlib.Core.Path.{sym}
 use borrow.Author.Needs.{needs}
 use Rattle.limits.proofs.number_fits.Statement.{statement}
 use Rattle.limits.proofs.number_fits.Tie as tie

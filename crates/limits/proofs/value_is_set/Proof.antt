@@ -1,6 +1,5 @@
 use Rattle.limits.specs.Limits.{isSet}
 use Rattle.message.specs.Places.{valueAt}
-use mathlib.Core.Path.{sym, ap, _∙_}
 use borrow.Author.Needs.{needs}
 use Rattle.limits.proofs.value_is_set.Statement.{statement}
 use Rattle.limits.proofs.value_is_set.Tie as tie

@@ -1,5 +1,5 @@
 use native.Mathlib.Omega.{arith}
-use mathlib.Core.Path.{subst, sym, _∙_}
+use mathlib.Core.Path.{subst, sym}
 use Rattle.plain.specs.Plain.{IoSaid}
 use Rattle.plain.proofs.Plains.{delay-lies, delay-data}
 use borrow.Author.Needs.{needs}

@@ -3,7 +3,7 @@ use Prim.Native.Nat.{ℕ}
 use mathlib.Core.Path.{ap}
 use Rattle.varint.specs.declared.Varint.the-variants.{Value}
 use native.Mathlib.Omega.{arith}
-use mathlib.Core.Path.{sym, subst, _∙_}
+use mathlib.Core.Path.{sym, _∙_}
 use Rattle.plain.specs.Plain.{Ends}
 use borrow.Author.Needs.{needs}
 use Rattle.plain.proofs.nanos_at.Statement.{statement}

@@ -1,7 +1,7 @@
 use Prim.Native.Nat.{_-_}
 use Rattle.range.specs.Range.{clientFits, bodyFits}
 use native.Mathlib.Omega.{arith}
-use mathlib.Core.Path.{_≡_, refl, sym, ap, subst, _∙_}
+use mathlib.Core.Path.{_≡_, sym, subst, _∙_}
 use Rattle.fields.proofs.Items.{last-means}
 use Rattle.fields.proofs.Follow.{LastLies, last-in-lies}
 use borrow.Author.Needs.{needs}

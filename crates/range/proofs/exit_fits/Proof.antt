@@ -2,7 +2,7 @@ use Rattle.range.specs.Range.{exitFits}
 use Rattle.limits.specs.Limits.{sized}
 use Rattle.message.specs.Message.{exit}
 use lib.Dec.{leb·zero}
-use mathlib.Core.Path.{sym, ap, _∙_}
+use mathlib.Core.Path.{sym, _∙_}
 use borrow.Author.Needs.{needs}
 use Rattle.range.proofs.exit_fits.Statement.{statement}
 use Rattle.range.proofs.exit_fits.Tie as tie

@@ -2,7 +2,6 @@ use Rattle.range.specs.Range.{restartFits}
 use Rattle.limits.specs.Limits.{sized}
 use Rattle.message.specs.Message.{restart}
 use borrow.Author.Tests.{le-leb, lt-leb}
-use mathlib.Core.Path.{sym, _∙_}
 use borrow.Author.Needs.{needs}
 use Rattle.range.proofs.restart_fits.Statement.{statement}
 use Rattle.range.proofs.restart_fits.Tie as tie

@@ -1,7 +1,7 @@
 use borrow.Author.Tests.{eq-eqb, ne-eqb}
 use Rattle.range.specs.Range.{serverFits}
 use native.Mathlib.Omega.{arith}
-use mathlib.Core.Path.{_≡_, refl, sym, ap, subst, _∙_}
+use mathlib.Core.Path.{sym, subst, _∙_}
 use Rattle.fields.proofs.Items.{last-means}
 use Rattle.fields.proofs.Follow.{LastLies, last-in-lies}
 use borrow.Author.Needs.{needs}

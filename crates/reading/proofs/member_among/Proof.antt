@@ -1,5 +1,5 @@
 use Rattle.fields.specs.Fields.{memberFrom}
-use mathlib.Core.Path.{sym, ap, _∙_}
+use mathlib.Core.Path.{sym, _∙_}
 use borrow.Author.Needs.{needs}
 use Rattle.reading.proofs.member_among.Statement.{statement}
 use Rattle.reading.proofs.member_among.Tie as tie

@@ -1,5 +1,5 @@
 use Rattle.reading.specs.Answers.{clientAnswer, clientBuffer, clientNumbers}
-use mathlib.Core.Path.{sym, ap, _∙_}
+use mathlib.Core.Path.{sym, _∙_}
 use borrow.Author.Needs.{needs}
 use Rattle.reading.proofs.sudolog_client.Statement.{statement}
 use Rattle.reading.proofs.sudolog_client.Tie as tie

@@ -1,5 +1,5 @@
 use Rattle.frame.specs.Frame.{countOf}
-use mathlib.Core.Path.{sym, ap, _∙_}
+use mathlib.Core.Path.{ap, _∙_}
 use borrow.Author.Needs.{needs}
 use Rattle.reading.proofs.sudolog_frame_count.Statement.{statement}
 use Rattle.reading.proofs.sudolog_frame_count.Tie as tie

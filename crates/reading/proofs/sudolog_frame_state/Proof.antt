@@ -1,5 +1,5 @@
 use Rattle.frame.specs.Frame.{stateOf}
-use mathlib.Core.Path.{sym, ap, _∙_}
+use mathlib.Core.Path.{ap, _∙_}
 use borrow.Author.Needs.{needs}
 use Rattle.reading.proofs.sudolog_frame_state.Statement.{statement}
 use Rattle.reading.proofs.sudolog_frame_state.Tie as tie

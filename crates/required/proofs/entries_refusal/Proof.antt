@@ -1,5 +1,5 @@
-use mathlib.Core.Path.{_≡_, refl, sym, _∙_}
-use borrow.Author.Tests.{eq-eqb, ne-eqb}
+use mathlib.Core.Path.{sym, _∙_}
+use borrow.Author.Tests.{ne-eqb}
 use Rattle.required.specs.Required.{entriesRefusal}
 use borrow.Author.Needs.{needs}
 use Rattle.required.proofs.entries_refusal.Statement.{statement}

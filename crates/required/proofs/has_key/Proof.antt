@@ -1,7 +1,7 @@
 use Rattle.required.specs.Required.{sameBytes, keyBytes}
 use Rattle.message.specs.Message.{Bytes}
 use native.Mathlib.Omega.{arith}
-use mathlib.Core.Path.{_≡_, refl, sym, ap, _∙_}
+use mathlib.Core.Path.{ap, _∙_}
 use Rattle.message.specs.Message.{entry}
 use Rattle.fields.proofs.Follow.{span-lies}
 use Rattle.fields.proofs.Items.{bytes-means}

@@ -1,13 +1,13 @@
 use Rattle.required.proofs.Laws.{fits-next}
 use Prim.Native.Nat.{_-_}
 use native.Mathlib.Omega.{arith}
-use mathlib.Core.Path.{_≡_, refl, sym, ap, _∙_}
+use mathlib.Core.Path.{_≡_, sym, _∙_}
 use lib.ListN.{length}
 use Rattle.fields.specs.Items.{items}
 use Rattle.message.specs.Message.{entries}
 use Rattle.elements.proofs.Elements.{found-lies}
 use Rattle.required.specs.Required.{lastValue, stringOrNone}
-use Rattle.required.proofs.Laws.{entriesAt, all-entries, entries-none, entries-next, fitsFrom, fits-all}
+use Rattle.required.proofs.Laws.{entriesAt, all-entries, entries-none, fitsFrom, fits-all}
 use borrow.Author.Needs.{needs}
 use Rattle.required.proofs.key_fits.Statement.{statement}
 use Rattle.required.proofs.key_fits.Tie as tie

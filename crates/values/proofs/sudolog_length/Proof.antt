@@ -1,6 +1,6 @@
 use Prim.Native.Nat.{_-_}
 use Rattle.fields.specs.declared.Span.{Span}
-use mathlib.Core.Path.{sym, ap, _∙_}
+use mathlib.Core.Path.{ap, _∙_}
 use borrow.Author.Needs.{needs}
 use Rattle.values.proofs.sudolog_length.Statement.{statement}
 use Rattle.values.proofs.sudolog_length.Tie as tie

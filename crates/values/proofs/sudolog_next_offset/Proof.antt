@@ -1,5 +1,5 @@
 use Rattle.values.specs.Answers.{offsetOf}
-use mathlib.Core.Path.{sym, ap, _∙_}
+use mathlib.Core.Path.{sym, _∙_}
 use borrow.Author.Needs.{needs}
 use Rattle.values.proofs.sudolog_next_offset.Statement.{statement}
 use Rattle.values.proofs.sudolog_next_offset.Tie as tie

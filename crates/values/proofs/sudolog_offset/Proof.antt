@@ -1,4 +1,4 @@
-use mathlib.Core.Path.{sym, ap, _∙_}
+use mathlib.Core.Path.{ap}
 use Rattle.fields.specs.declared.Span.{Span}
 use borrow.Author.Needs.{needs}
 use Rattle.values.proofs.sudolog_offset.Statement.{statement}

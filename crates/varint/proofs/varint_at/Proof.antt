@@ -2,9 +2,8 @@ use Prim.Native.Nat.{_+_, _-_, _*_, _^_, _≤_, _<_}
 use borrow.Author.Needs.{needs}
 use native.Mathlib.Omega.{arith}
 use mathlib.Core.Path.{_≡_, refl, sym, ap, _∙_}
-use lib.ListN.{getD, length}
-use Rattle.varint.specs.Varint.{above, varintFrom, varintAt}
-use Rattle.varint.specs.declared.Varint.{Varint}
+use lib.ListN.{length}
+use Rattle.varint.specs.Varint.{varintFrom, varintAt}
 use Rattle.varint.proofs.Varints.{past, last-fits, last-long, ends, goes-on, lim}
 use Rattle.varint.proofs.Slow.{under, under-start, under-above, room, room-last, room-next, share}
 use Rattle.varint.proofs.varint_at.Statement.{statement}

@@ -1,6 +1,6 @@
 use native.Mathlib.Omega.{arith}
 use mathlib.Core.Path.{sym, subst, _∙_}
-use Rattle.walk.specs.Places.{timeFrom, timeOf}
+use Rattle.walk.specs.Places.{timeFrom}
 use Rattle.fields.specs.declared.Last.the-variants as last
 use Rattle.fields.proofs.Follow.{LastLies, last-in-lies}
 use borrow.Author.Needs.{needs}
