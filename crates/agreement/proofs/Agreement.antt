@@ -35,7 +35,7 @@ whole-file h logs a = record {
   exits = λ s e. exits h logs a e s;
 }
 
-in-logging : (h : Host) (st : State) → st ≡ Logging → InState st h → Agrees h
+pub in-logging : (h : Host) (st : State) → st ≡ Logging → InState st h → Agrees h
 in-logging h st e i = rw e at i
 
 begin-stands : (area : Bytes) (used : ℕ) → AreBytes (take used area) → Stands (begin area used)

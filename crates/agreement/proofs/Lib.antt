@@ -6,3 +6,4 @@ pub mod Steps
 pub mod Adds
 pub mod Points
 pub mod Agreement
+pub mod Rising
