@@ -14,7 +14,8 @@ use Rattle.tag.specs.declared.Tag.{Tag}
 use Rattle.tag.specs.declared.Tag.the-variants as tag
 use Rattle.field.specs.declared.Payload.{Payload}
 use Rattle.field.specs.declared.Payload.the-variants as payload
-use Rattle.fields.proofs.Reach.{picked, Read, read, TagRead, tag-of, PayloadRead, payload-at}
+use Rattle.laws.proofs.Order.{picked}
+use Rattle.fields.proofs.Reach.{Read, read, TagRead, tag-of, PayloadRead, payload-at}
 use Rattle.encoding.specs.Check.{stepOf, stepFrom, stepAt}
 use Rattle.encoding.specs.declared.Step.{Step}
 use Rattle.encoding.specs.declared.Step.the-variants as step

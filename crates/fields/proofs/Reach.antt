@@ -1,15 +1,13 @@
 -- How far a varint, a tag and a value reach: past their start and within the list.
 use Prim.Native.Nat.{ℕ, zero, suc, _+_, _-_, _≤_, _<_}
 use native.Mathlib.Omega.{arith}
-use mathlib.Core.Path.{_≡_, refl, subst}
+use mathlib.Core.Path.{refl, subst}
 use mathlib.Core.List.{List}
-use mathlib.Core.Bool.{Bool, true, false}
 use mathlib.Core.Logic.{⊎-elim}
 use lib.ListN.{length, getD}
 use lib.Dec.{leb, eqb}
 use borrow.Author.Tests.{leb-true}
-use Rattle.laws.specs.Base.{pick}
-use Rattle.laws.proofs.Order.{lt-or-le}
+use Rattle.laws.proofs.Order.{lt-or-le, picked}
 use Rattle.varint.specs.Varint.{varintFrom, varintAt, above}
 use Rattle.field.specs.Field.{fixedAt, numberOf, partOf, payloadAt}
 use Rattle.tag.specs.Tag.{tagFits, tagOf, tagAt}
@@ -20,11 +18,6 @@ use Rattle.tag.specs.declared.Tag.the-variants as tag
 use Rattle.field.specs.declared.Payload.{Payload}
 use Rattle.field.specs.declared.Payload.the-variants as payload
 use Rattle.varint.proofs.Varints.{past, last-fits, last-long, ends, goes-on}
-
--- what holds of both holds of the one picked
-pub picked : {A : Type 0} (P : A → Type 0) (t : Bool) (a b : A) → (t ≡ true → P a) → (t ≡ false → P b) → P (pick t a b)
-picked P true a b f g = f refl
-picked P false a b f g = g refl
 
 module _ (s : List ℕ) where
   abbrev pub Read : ℕ → Varint → Type 0
