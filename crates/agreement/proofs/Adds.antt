@@ -8,10 +8,9 @@ use lib.ListN.{length, take}
 use lib.Dec.{leb, eqb}
 use borrow.Author.Tests.{eqb-false}
 use Rattle.laws.proofs.Order.{picked}
-use Rattle.fields.specs.Items.{items, lastItem, bytesOf}
 use Rattle.message.specs.Message.{Bytes, Exit, Client, acceptMsg, rejectMsg, exitMsg, restartMsg, alertMsg, ioBuf, winsizeEvent, suspendEvent, helloMsg}
 use Rattle.range.specs.Range.{reportFits, exitFits, ioFits, windowFits, suspendFits}
-use Rattle.wire.specs.Read.{value, clientMessage}
+use Rattle.wire.specs.Read.{value, clientMessage, received}
 use Rattle.record.specs.Record.{Record}
 use Rattle.record.specs.File.{fileBytes}
 use Rattle.session.specs.State.{opening, recording, greeting, ending, alerting, turn}
@@ -89,5 +88,5 @@ module _ (h : Host) (logs : h .session .state ≡ Logging) (a : Agrees h) where
   unfolding step onReading
   adds s c reads =
       picked (Adds (added c)) (leb (length s) 2097152) _ _
-      (λ _. rw reads (in-state c (bytesOf (lastItem 1 13 (items s))) (se .state) logs))
+      (λ _. rw reads (in-state c (received s) (se .state) logs))
       (λ _ z. absurd (omega arith))

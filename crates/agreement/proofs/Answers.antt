@@ -11,10 +11,9 @@ use lib.Dec.{leb, eqb}
 use borrow.Author.Tests.{eqb-false}
 use Rattle.laws.specs.Base.{pick, both}
 use Rattle.laws.proofs.Order.{picked}
-use Rattle.fields.specs.Items.{items, lastItem, bytesOf}
 use Rattle.message.specs.Message.{Bytes, Entry, Accept, Exit, Restart, Client, acceptMsg, rejectMsg, exitMsg, restartMsg, alertMsg, ioBuf, winsizeEvent, suspendEvent, helloMsg}
 use Rattle.range.specs.Range.{acceptFits, reportFits, exitFits, restartFits, ioFits, windowFits, suspendFits}
-use Rattle.wire.specs.Read.{Reading, value, refused, clientMessage}
+use Rattle.wire.specs.Read.{Reading, value, refused, clientMessage, received}
 use Rattle.required.specs.Required.{entriesRefusal}
 use Rattle.record.specs.Record.{Record}
 use Rattle.record.specs.File.{limit, Records, all, none, recordsOf, FileKind, invalid, unfinished, finished, recordsKind, meets}
@@ -27,7 +26,8 @@ use Rattle.session.specs.declared.Point.{Point}
 use Rattle.session.specs.declared.Point.the-variants as point
 use Rattle.agreement.specs.Refusals.{Refused, Refusals}
 use Rattle.agreement.specs.NoPoint.{ExitInLogging, NoPoint}
-use Rattle.agreement.proofs.Reader.{ReadNumbered, message-numbered, entries-most}
+use Rattle.wire.proofs.Promises.{ReadNumbered, message-numbered}
+use Rattle.agreement.proofs.Reader.{entries-most}
 
 pub never-at : (t : ℕ) → point.Absent ≡ point.At t → ⊥
 never-at t e = let z : _≡_ {A = ℕ} 0 1 = cc in omega arith
@@ -162,7 +162,7 @@ module _ (se : Session) (area : Bytes) (used : ℕ) (Exits : Type 0) where
   unfolding step
   of-step s x =
       picked Answered (leb (length s) 2097152) _ _
-      (λ _. of-reading (bytesOf (lastItem 1 13 (items s))) (clientMessage s) (message-numbered s) x)
+      (λ _. of-reading (received s) (clientMessage s) (message-numbered s) x)
       (λ _. refuses 1 0 (omega arith) (omega arith))
 
 -- ---- the statements

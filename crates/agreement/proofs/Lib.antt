@@ -1,6 +1,5 @@
 pub mod Reader
 pub mod Answers
-pub mod Members
 pub mod Files
 pub mod Steps
 pub mod Adds

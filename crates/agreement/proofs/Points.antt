@@ -8,10 +8,9 @@ use lib.ListN.{length}
 use lib.Dec.{leb}
 use borrow.Author.Tests.{eq-eqb, ne-eqb}
 use Rattle.laws.proofs.Order.{picked}
-use Rattle.fields.specs.Items.{items, lastItem, bytesOf}
 use Rattle.message.specs.Message.{Bytes, Exit, exitMsg}
 use Rattle.range.specs.Range.{exitFits}
-use Rattle.wire.specs.Read.{value, clientMessage}
+use Rattle.wire.specs.Read.{value, clientMessage, received}
 use Rattle.record.specs.Record.{Record}
 use Rattle.record.specs.File.{total, lowTotal}
 use Rattle.record.proofs.Times.{exit-time}
@@ -100,5 +99,5 @@ module _ (h : Host) (logs : h .session .state ≡ Logging) (a : Agrees h) where
     unfolding step onReading turn
     exits s reads =
         picked Taken (leb (length s) 2097152) _ _
-        (λ _. rw reads (exit-turn (bytesOf (lastItem 1 13 (items s))) (h .session .state) logs))
+        (λ _. rw reads (exit-turn (received s) (h .session .state) logs))
         (λ _ z. absurd (omega arith))

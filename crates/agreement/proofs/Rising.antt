@@ -12,10 +12,9 @@ use lib.Dec.{leb, eqb}
 use borrow.Author.Tests.{ne-eqb, eqb-true, eqb-false}
 use Rattle.laws.specs.Base.{pick}
 use Rattle.laws.proofs.Order.{picked}
-use Rattle.fields.specs.Items.{items, lastItem, bytesOf}
 use Rattle.message.specs.Message.{Bytes, Exit, Client, acceptMsg, rejectMsg, exitMsg, restartMsg, alertMsg, ioBuf, winsizeEvent, suspendEvent, helloMsg}
 use Rattle.range.specs.Range.{reportFits, exitFits, ioFits, windowFits, suspendFits}
-use Rattle.wire.specs.Read.{Reading, value, refused, clientMessage}
+use Rattle.wire.specs.Read.{Reading, value, refused, clientMessage, received}
 use Rattle.record.specs.Record.{Record, recordBytes}
 use Rattle.record.specs.File.{total}
 use Rattle.session.specs.State.{opening, recording, greeting, ending, alerting, turn}
@@ -148,7 +147,7 @@ module _ (h : Host) (logs : h .session .state ≡ Logging) (a : Agrees h) where
 
   message-onward : (s : Bytes) → Onward (answered h s)
   unfolding step
-  message-onward s = picked Onward (leb (length s) 2097152) _ _ (λ _. read-onward (bytesOf (lastItem 1 13 (items s))) (clientMessage s)) (λ _. inl refl)
+  message-onward s = picked Onward (leb (length s) 2097152) _ _ (λ _. read-onward (received s) (clientMessage s)) (λ _. inl refl)
 
   call-onward : (c : Call) → (after h c .session .state ≡ Closed) ⊎ ((after h c .session .state ≡ Logging) × AtMost (tick se) (tick (after h c .session)))
   unfolding after
@@ -195,7 +194,7 @@ module _ (h : Host) where
 
   shut-call : h .session .state ≡ Closed → (c : Call) → after h c .session .state ≡ Closed
   unfolding after step
-  shut-call q (message s) = picked Shut (leb (length s) 2097152) _ _ (λ _. shut-read q (bytesOf (lastItem 1 13 (items s))) (clientMessage s)) (λ _. refl)
+  shut-call q (message s) = picked Shut (leb (length s) 2097152) _ _ (λ _. shut-read q (received s) (clientMessage s)) (λ _. refl)
   shut-call q call.tick = q
   shut-call q (call.behind bs) = q
 

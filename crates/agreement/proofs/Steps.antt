@@ -11,10 +11,9 @@ use lib.Dec.{leb, eqb}
 use borrow.Author.Tests.{leb-true, le-leb, eqb-true}
 use Rattle.laws.specs.Base.{pick}
 use Rattle.laws.proofs.Order.{picked, both-true}
-use Rattle.fields.specs.Items.{items, lastItem, bytesOf}
 use Rattle.message.specs.Message.{Bytes, Accept, Report, Exit, Restart, Client, acceptMsg, rejectMsg, exitMsg, restartMsg, alertMsg, ioBuf, winsizeEvent, suspendEvent, helloMsg}
 use Rattle.range.specs.Range.{acceptFits, reportFits, exitFits, restartFits, ioFits, windowFits, suspendFits}
-use Rattle.wire.specs.Read.{Reading, value, refused, clientMessage}
+use Rattle.wire.specs.Read.{Reading, value, refused, clientMessage, received}
 use Rattle.record.specs.Record.{Record, recordBytes}
 use Rattle.record.specs.File.{limit, Records, all, none, recordsOf, total, FileKind, invalid, unfinished, finished, recordsKind, meets}
 use Rattle.session.specs.State.{opening, recording, greeting, ending, alerting, turn}
@@ -28,7 +27,7 @@ use Rattle.delivery.specs.Recording.{TimedRecord, io, window, suspend, recordOf
 use Rattle.delivery.proofs.Values.{StorableTimed, timed-ranged, may-follow}
 use Rattle.agreement.specs.Calls.{Call, message, tick, behind, Host, untilPositive, afterTaken, afterMessage, left, over, withBehind, after}
 use Rattle.agreement.specs.Agreement.{Agrees, Unopened, InState, Stands}
-use Rattle.agreement.proofs.Members.{Known, ReadKnown, message-known}
+use Rattle.wire.proofs.Promises.{Known, ReadKnown, message-known}
 use Rattle.agreement.proofs.Files.{still-agrees, accept-agrees, stored-agrees, restart-agrees}
 
 -- a record that has room
@@ -230,7 +229,7 @@ module _ (h : Host) where
   unfolding after step
   message-stands s i =
       picked (λ (o : Outcome). Stands (left o (afterMessage (clientMessage s) (o .refusal) (h .restartPoint)))) (leb (length s) 2097152) _ _
-      (λ _. reading-stands (bytesOf (lastItem 1 13 (items s))) (clientMessage s) (message-known s) i)
+      (λ _. reading-stands (received s) (clientMessage s) (message-known s) i)
       (λ _. tt)
 
 -- ---- other bytes behind the used ones

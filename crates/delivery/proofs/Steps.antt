@@ -23,7 +23,8 @@ use Rattle.session.specs.declared.Session.{Session}
 use Rattle.session.specs.declared.Point.the-variants as point
 use Rattle.session.proofs.Turns.{opens, accept-placed}
 use Rattle.delivery.specs.Recording.{TimedRecord, io, window, suspend, Recording, recordOf, inRange, acceptOf, Valid}
-use Rattle.delivery.specs.Sender.{Reads, member, received}
+use Rattle.delivery.specs.Sender.{Reads, member}
+use Rattle.wire.specs.Read.{received}
 
 module _ (se : Session) (area : Bytes) (used : ℕ) (s : Bytes) where
   by-member : (c : Client) → Reads s c → step se area used s ≡ inTurn se area used (turn (se .state) c) (received s) c

@@ -6,11 +6,11 @@ use mathlib.Core.Bool.{Bool, true, false}
 use mathlib.Core.Option.{Option, none, some}
 use mathlib.Core.List.{List, [], _∷_, _++_, map}
 use lib.ListN.{length}
-use Rattle.fields.specs.Items.{items, lastItem, bytesOf}
+use Rattle.fields.specs.Items.{items}
 use Rattle.message.specs.Message as m
 use Rattle.message.specs.Message.{Bytes, Exit, Restart, Client, acceptMsg, exitMsg, restartMsg, ioBuf, winsizeEvent, suspendEvent, helloMsg}
 use Rattle.range.specs.Range.{restartFits}
-use Rattle.wire.specs.Read.{value, clientMessage}
+use Rattle.wire.specs.Read.{value, clientMessage, received}
 use Rattle.session.specs.Step.{moment}
 use Rattle.delivery.specs.Recording.{TimedRecord, io, window, suspend, Recording, greater}
 
@@ -52,10 +52,6 @@ unfoldable pub member : TimedRecord → Client
 member (io k i) = ioBuf k i
 member (window w) = winsizeEvent w
 member (suspend s) = suspendEvent s
-
--- an accept's bytes as received
-abbrev pub received : Bytes → Bytes
-received s = bytesOf (lastItem 1 13 (items s))
 
 -- "a valid restart", at T
 pub record SaysRestart (s : Bytes) (T : ℕ) : Type 0 where

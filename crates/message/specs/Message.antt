@@ -188,3 +188,29 @@ serverMember f d =
     (pick (eqb f 3) (logId d)
     (pick (eqb f 4) (error d)
     (abort d))))
+
+-- ---- the same of a message's bytes: what a reader promises of them
+
+abbrev pub acceptIn : Bytes → Accept
+acceptIn d = accept (items d)
+
+abbrev pub reportIn : Bytes → Report
+reportIn d = report (items d)
+
+abbrev pub exitIn : Bytes → Exit
+exitIn d = exit (items d)
+
+abbrev pub restartIn : Bytes → Restart
+restartIn d = restart (items d)
+
+abbrev pub timedIn : Bytes → Timed
+timedIn d = timed (items d)
+
+abbrev pub windowSizeIn : Bytes → WindowSize
+windowSizeIn d = windowSize (items d)
+
+abbrev pub entriesIn : ℕ → Bytes → List Entry
+entriesIn f d = entries f (items d)
+
+abbrev pub clientMemberIn : ℕ → Bytes → Client
+clientMemberIn f d = clientMember f (items d)

@@ -65,3 +65,7 @@ unfoldable pub inRange : ℕ → List Item → Bool
 inRange m is =
     pick (eqb m ClientMessage) (clientFits (lastItem 1 13 is))
     (pick (eqb m ServerMessage) (serverFits (lastItem 1 5 is)) (bodyFits m is))
+
+-- the same of a message's bytes
+abbrev pub bodyFitsIn : ℕ → List ℕ → Bool
+bodyFitsIn m d = bodyFits m (items d)

@@ -10,10 +10,9 @@ use lib.Seq.{length-take-le}
 use lib.Dec.{leb, eqb}
 use borrow.Author.Tests.{leb-true, eqb-true}
 use Rattle.laws.proofs.Order.{picked, both-true, lt-or-le}
-use Rattle.fields.specs.Items.{items, lastItem, bytesOf}
 use Rattle.message.specs.Message.{Bytes, Accept, Exit, Restart, Client, acceptMsg, rejectMsg, exitMsg, restartMsg, alertMsg, ioBuf, winsizeEvent, suspendEvent, helloMsg}
 use Rattle.range.specs.Range.{acceptFits, reportFits, exitFits, restartFits, ioFits, windowFits, suspendFits}
-use Rattle.wire.specs.Read.{Reading, value, refused, clientMessage}
+use Rattle.wire.specs.Read.{Reading, value, refused, clientMessage, received}
 use Rattle.record.specs.Record.{Record, recordBytes}
 use Rattle.record.specs.File.{limit, Records, all, none, recordsOf, fileBytes, total, lowTotal, FileKind, invalid, unfinished, finished, recordsKind, meets, keep}
 use Rattle.record.proofs.Beginnings.{low-found, low-none}
@@ -185,4 +184,4 @@ module _ (se : Session) (h : Sound se) (area : Bytes) (used : ℕ) where
   pub step-sound : (s : Bytes) → Sound (step se area used s .session)
   unfolding step
   step-sound s =
-      picked After (leb (length s) 2097152) _ _ (λ _. reading-sound (bytesOf (lastItem 1 13 (items s))) (clientMessage s)) (λ _. refused-sound 1 0)
+      picked After (leb (length s) 2097152) _ _ (λ _. reading-sound (received s) (clientMessage s)) (λ _. refused-sound 1 0)

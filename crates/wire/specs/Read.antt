@@ -6,7 +6,7 @@ use lib.Dec.{eqb}
 use Rattle.laws.specs.Base.{pick}
 use Rattle.schema.specs.Schema.{ClientMessage, ServerMessage}
 use Rattle.encoding.specs.Check.{checkOf}
-use Rattle.fields.specs.Items.{Item, none, number, bytes, items, lastItem}
+use Rattle.fields.specs.Items.{Item, none, number, bytes, items, lastItem, bytesOf}
 use Rattle.encoding.specs.declared.Checked.{Checked}
 use Rattle.encoding.specs.declared.Checked.the-variants as checked
 use Rattle.message.specs.Message.{Client, Server, clientMember, serverMember}
@@ -31,6 +31,10 @@ member f (bytes n d) = value (f n d)
 -- a ClientMessage as a session reads it: 2 to 6, no ranges
 unfoldable pub clientMessage : List ℕ → Reading Client
 clientMessage s = after (checkOf ClientMessage s) (member (λ n d. clientMember n (items d)) (lastItem 1 13 (items s)))
+
+-- the bytes of the member that counts, as received
+abbrev pub received : List ℕ → List ℕ
+received s = bytesOf (lastItem 1 13 (items s))
 
 unfoldable pub serverMessage : List ℕ → Reading Server
 serverMessage s = after (checkOf ServerMessage s) (member serverMember (lastItem 1 5 (items s)))

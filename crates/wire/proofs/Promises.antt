@@ -1,4 +1,4 @@
--- An I/O buffer that is read has a kind from 6 to 10.
+-- What `clientMessage` promises of every message: an I/O buffer has a kind from 6 to 10; a refusal is one of 2 to 6.
 use Prim.Native.Nat.{ℕ, _+_, _≤_}
 use native.Mathlib.Omega.{arith}
 use mathlib.Core.Path.{_≡_}
@@ -8,13 +8,14 @@ use lib.Dec.{leb, eqb}
 use borrow.Author.Tests.{leb-true, eqb-false}
 use Rattle.laws.proofs.Order.{picked, both-true}
 use Rattle.schema.specs.Schema.{ClientMessage}
+use Rattle.encoding.proofs.Numbered.{CheckTold, check-told}
 use Rattle.encoding.specs.Check.{checkOf}
 use Rattle.fields.specs.Fields.{among}
 use Rattle.fields.specs.Items.{Item, none, number, bytes, items, lastFrom, lastItem}
 use Rattle.encoding.specs.declared.Checked.{Checked}
 use Rattle.encoding.specs.declared.Checked.the-variants as checked
 use Rattle.message.specs.Message.{Bytes, Client, acceptMsg, rejectMsg, exitMsg, restartMsg, alertMsg, ioBuf, winsizeEvent, suspendEvent, helloMsg, clientMember}
 use Rattle.wire.specs.Read.{Reading, value, refused, after, member, clientMessage}
 
 -- ---- the member's number
 
@@ -82,3 +83,24 @@ item-known (bytes f d) h = member-known f (items d) (h .0)
 pub message-known : (s : Bytes) → ReadKnown (clientMessage s)
 unfolding clientMessage
 message-known s = after-known (checkOf ClientMessage s) _ (item-known (lastItem 1 13 (items s)) (last-named 1 13 none (items s) tt))
+
+-- ---- the numbers of its refusals
+
+abbrev pub ReadNumbered : {A : Type 0} → Reading A → Type 0
+ReadNumbered (value a) = Unit {0}
+ReadNumbered (refused n) = (2 ≤ n) × (n ≤ 6)
+
+after-numbered : {A : Type 0} (c : Checked) (r : Reading A) → CheckTold c → ReadNumbered r → ReadNumbered (after c r)
+unfolding after
+after-numbered checked.Fine r h k = k
+after-numbered (checked.Refused n p) r h k = (h .0, omega (arith, h .1))
+
+member-numbered : {A : Type 0} (f : ℕ → List ℕ → A) (i : Item) → ReadNumbered (member f i)
+unfolding member
+member-numbered f none = (omega arith, omega arith)
+member-numbered f (number n v) = (omega arith, omega arith)
+member-numbered f (bytes n d) = tt
+
+pub message-numbered : (s : Bytes) → ReadNumbered (clientMessage s)
+unfolding clientMessage
+message-numbered s = after-numbered (checkOf ClientMessage s) _ (check-told ClientMessage s) (member-numbered _ (lastItem 1 13 (items s)))
