@@ -11,7 +11,7 @@ use Rattle.session.specs.declared.State.{State}
 use Rattle.session.specs.declared.State.the-variants.{New, Greeted, Logging, EventsOnly, Closed}
 use Rattle.session.specs.declared.Point.{Point}
 use Rattle.session.specs.declared.Point.the-variants as point
-use Rattle.session.proofs.Examples.{examples}
+use Rattle.examples.proofs.Session.{examples}
 use Rattle.agreement.specs.Calls.{Call, Host, after, afterAll, begin}
 use Rattle.agreement.specs.Agreement.{AreBytes, Agrees, InState, Stands, WholeFile, seven, Agreement}
 use Rattle.agreement.proofs.Answers.{never-at}

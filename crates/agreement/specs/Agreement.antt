@@ -15,7 +15,7 @@ use Rattle.record.specs.File.{recordsOf, fileBytes, total, lowTotal, unfinished
 use Rattle.store.specs.Store.{fitsHeader}
 use Rattle.session.specs.Step as session
 use Rattle.session.specs.Step.{Outcome, exitRecord}
-use Rattle.session.specs.Examples.{accept, ttyout}
+use Rattle.examples.specs.Session.{accept, ttyout}
 use Rattle.session.specs.declared.State.{State}
 use Rattle.session.specs.declared.State.the-variants.{New, Greeted, Logging, EventsOnly, Closed}
 use Rattle.session.specs.declared.Mark.{Mark}

@@ -12,4 +12,3 @@ pub mod Demand
 pub mod Story
 pub mod Restarting
 pub mod Progress
-pub mod Examples

@@ -5,4 +5,3 @@ pub mod World
 pub mod Demand
 pub mod Progress
 pub mod Story
-pub mod Examples

@@ -10,7 +10,7 @@ use lib.IntN.{pos}
 use lib.ListN.{drop, replicate}
 use Rattle.message.specs.Message.{Bytes}
 use Rattle.record.specs.File.{fileBytes}
-use Rattle.session.specs.Examples as e
+use Rattle.examples.specs.Session as e
 use Rattle.delivery.specs.Recording.{Recording, TimedRecord, io, records}
 use Rattle.delivery.specs.World.{Event, opening, bytes, tick, arrival, break, file}
 use Rattle.delivery.specs.Demand.{Given, Listed, after}

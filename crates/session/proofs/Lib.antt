@@ -3,4 +3,3 @@ pub mod Moments
 pub mod Lengths
 pub mod Timed
 pub mod Stores
-pub mod Examples

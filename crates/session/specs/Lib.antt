@@ -1,4 +1,3 @@
 pub mod State
 pub mod Step
 pub mod Answer
-pub mod Examples

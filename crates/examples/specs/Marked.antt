@@ -1,5 +1,5 @@
 -- Document 01, "Marked examples": "These ten are shown of the definitions, gathered in one table under one statement."
-use Rattle.session.specs.Examples.{Examples}
+use Rattle.examples.specs.Session.{Examples}
 use Rattle.written.specs.Examples.{WritingExamples}
 
 pub record MarkedExamples : Type 0 where

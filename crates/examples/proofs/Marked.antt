@@ -1,7 +1,7 @@
 -- The marked examples hold.
-use Rattle.session.proofs.Examples.{examples}
+use Rattle.examples.proofs.Session.{examples}
 use Rattle.written.proofs.Examples.{writing-examples}
-use Rattle.delivery.specs.Examples.{MarkedExamples}
+use Rattle.examples.specs.Marked.{MarkedExamples}
 
 pub marked-examples : MarkedExamples
 marked-examples = record { ten = examples; written = writing-examples }
