@@ -1,14 +1,14 @@
 // Replays a recorded client stream: reads it from standard input and prints, for each frame, what a session over one area
 // answers. What is decided and what is printed stands in `report`, `wording` and `ending`, proved; here bytes come in and lines go out.
-use ending::End;
-use ending::end_line;
 use libc::STDIN_FILENO;
 use libc::STDOUT_FILENO;
-use report::Replay;
-use report::start;
-use report::turn;
-use window::Next;
-use window::slide;
+use replay_end::End;
+use replay_end::end_line;
+use replay_turn::Replay;
+use replay_turn::start;
+use replay_turn::turn;
+use replay_window::Next;
+use replay_window::slide;
 ghost use Prim.Native.Nat.{_≤_};
 ghost use lib.ListN.{length};
 

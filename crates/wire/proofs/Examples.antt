@@ -1,17 +1,17 @@
 -- The marked examples compute.
 use mathlib.Core.Path.{refl}
-use Rattle.frame.specs.Frame.{cutOf, lengthOf}
-use Rattle.varint.specs.Varint.{varintFrom}
-use Rattle.schema.specs.Schema.{schema, kindOf, takes}
-use Rattle.field.specs.Field.{fixedAt, numberOf, partOf, payloadAt}
-use Rattle.tag.specs.Tag.{tagFits, tagOf, tagAt}
-use Rattle.encoding.specs.Check.{stepOf, stepFrom, stepAt}
-use Rattle.encoding.specs.Check.{before, onStep, checkFrom, checkAt}
-use Rattle.fields.specs.Fields.{fieldOf, fieldFrom, fieldAt, onField, fieldsFrom, fieldsAt, among}
-use Rattle.fields.specs.Items as i
-use Rattle.fields.specs.Items.{items, lastFrom, bytesOf}
-use Rattle.message.specs.Signed.{signed, int64, int32}
-use Rattle.message.specs.Message.{timeSpec, timeField, timed, clientMember, serverMember}
+use Rattle.wire_frame.specs.Frame.{cutOf, lengthOf}
+use Rattle.wire_varint.specs.Varint.{varintFrom}
+use Rattle.wire_schema.specs.Schema.{schema, kindOf, takes}
+use Rattle.wire_value.specs.Field.{fixedAt, numberOf, partOf, payloadAt}
+use Rattle.wire_tag.specs.Tag.{tagFits, tagOf, tagAt}
+use Rattle.wire_check_field.specs.Check.{stepOf, stepFrom, stepAt}
+use Rattle.wire_check_field.specs.Check.{before, onStep, checkFrom, checkAt}
+use Rattle.wire_fields.specs.Fields.{fieldOf, fieldFrom, fieldAt, onField, fieldsFrom, fieldsAt, among}
+use Rattle.wire_fields.specs.Items as i
+use Rattle.wire_fields.specs.Items.{items, lastFrom, bytesOf}
+use Rattle.wire_message.specs.Signed.{signed, int64, int32}
+use Rattle.wire_message.specs.Message.{timeSpec, timeField, timed, clientMember, serverMember}
 use Rattle.wire.specs.Read.{after, member, clientMessage, serverMessage}
 use Rattle.wire.specs.Examples.{ReadingExamples}
 

@@ -7,27 +7,27 @@ use mathlib.Core.Bool.{Bool, true, false}
 use lib.ListN.{length}
 use lib.Dec.{T, leb, eqb, leb→le}
 use borrow.Author.Tests.{le-leb, ne-eqb, eqb-true, eq-eqb}
-use Rattle.laws.specs.Base.{pick, both, part}
-use Rattle.laws.proofs.Parts.{part-part, length-part}
-use Rattle.schema.specs.Schema.{schema, kindOf}
-use Rattle.encoding.specs.Check.{checkOf}
-use Rattle.fields.specs.Fields.{lastIn, startFrom, endFrom}
-use Rattle.fields.specs.Items.{Item, items}
-use Rattle.encoding.specs.declared.Checked.{Checked}
-use Rattle.encoding.specs.declared.Checked.the-variants as checked
-use Rattle.fields.specs.declared.Last.{Last}
-use Rattle.fields.specs.declared.Last.the-variants as last
-use Rattle.schema.proofs.Rows.{kinds}
-use Rattle.fields.proofs.Follow.{LastLies, last-in-lies, span-lies}
-use Rattle.fields.proofs.Items.{contentOf, last-means, bytes-means}
-use Rattle.walk.specs.Places.{timeIn, ioRead, ioBufferOf}
-use Rattle.client_walk.specs.Client.{memberRead, clientFrom, clientRead, clientOf}
-use Rattle.walk.specs.declared.io.IoRead.the-variants as ioread
-use Rattle.client_walk.specs.declared.ClientRead.{ClientRead}
-use Rattle.client_walk.specs.declared.ClientRead.the-variants as client
-use Rattle.message.specs.Message.{clientMember, ioBuf, timed}
-use Rattle.message.specs.Places.{timeValue}
-use Rattle.message.proofs.Meaning.{time-means}
+use Rattle.base_laws.specs.Base.{pick, both, part}
+use Rattle.base_laws.proofs.Parts.{part-part, length-part}
+use Rattle.wire_schema.specs.Schema.{schema, kindOf}
+use Rattle.wire_check_field.specs.Check.{checkOf}
+use Rattle.wire_fields.specs.Fields.{lastIn, startFrom, endFrom}
+use Rattle.wire_fields.specs.Items.{Item, items}
+use Rattle.wire_check_field.specs.declared.Checked.{Checked}
+use Rattle.wire_check_field.specs.declared.Checked.the-variants as checked
+use Rattle.wire_fields.specs.declared.Last.{Last}
+use Rattle.wire_fields.specs.declared.Last.the-variants as last
+use Rattle.wire_schema.proofs.Rows.{kinds}
+use Rattle.wire_fields.proofs.Follow.{LastLies, last-in-lies, span-lies}
+use Rattle.wire_fields.proofs.Items.{contentOf, last-means, bytes-means}
+use Rattle.wire_walk_io.specs.Places.{timeIn, ioRead, ioBufferOf}
+use Rattle.wire_walk_client.specs.Client.{memberRead, clientFrom, clientRead, clientOf}
+use Rattle.wire_walk_io.specs.declared.io.IoRead.the-variants as ioread
+use Rattle.wire_walk_client.specs.declared.ClientRead.{ClientRead}
+use Rattle.wire_walk_client.specs.declared.ClientRead.the-variants as client
+use Rattle.wire_message.specs.Message.{clientMember, ioBuf, timed}
+use Rattle.wire_message.specs.Places.{timeValue}
+use Rattle.wire_message.proofs.Meaning.{time-means}
 use Rattle.wire.specs.Read.{value, after, member, clientMessage}
 use Rattle.wire.specs.Places.{clientValue}
 

@@ -6,15 +6,15 @@ use mathlib.Core.Bool.{false}
 use mathlib.Core.List.{List, [], _∷_}
 use lib.Dec.{leb, eqb}
 use borrow.Author.Tests.{leb-true, eqb-false}
-use Rattle.laws.proofs.Order.{picked, both-true}
-use Rattle.schema.specs.Schema.{ClientMessage}
-use Rattle.encoding.proofs.Numbered.{CheckTold, check-told}
-use Rattle.encoding.specs.Check.{checkOf}
-use Rattle.fields.specs.Fields.{among}
-use Rattle.fields.specs.Items.{Item, none, number, bytes, items, lastFrom, lastItem}
-use Rattle.encoding.specs.declared.Checked.{Checked}
-use Rattle.encoding.specs.declared.Checked.the-variants as checked
-use Rattle.message.specs.Message.{Bytes, Client, acceptMsg, rejectMsg, exitMsg, restartMsg, alertMsg, ioBuf, winsizeEvent, suspendEvent, helloMsg, clientMember}
+use Rattle.base_laws.proofs.Order.{picked, both-true}
+use Rattle.wire_schema.specs.Schema.{ClientMessage}
+use Rattle.wire_check_field.proofs.Numbered.{CheckTold, check-told}
+use Rattle.wire_check_field.specs.Check.{checkOf}
+use Rattle.wire_fields.specs.Fields.{among}
+use Rattle.wire_fields.specs.Items.{Item, none, number, bytes, items, lastFrom, lastItem}
+use Rattle.wire_check_field.specs.declared.Checked.{Checked}
+use Rattle.wire_check_field.specs.declared.Checked.the-variants as checked
+use Rattle.wire_message.specs.Message.{Bytes, Client, acceptMsg, rejectMsg, exitMsg, restartMsg, alertMsg, ioBuf, winsizeEvent, suspendEvent, helloMsg, clientMember}
 use Rattle.wire.specs.Read.{Reading, value, refused, after, member, clientMessage}
 
 -- ---- the member's number

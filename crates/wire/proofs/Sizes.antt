@@ -7,21 +7,21 @@ use mathlib.Core.List.{List, [], _∷_, map}
 use lib.Dec.{ltb, leb, eqb}
 use lib.ListN.{length}
 use borrow.Author.Tests.{eqb-true}
-use Rattle.laws.specs.Base.{pick}
-use Rattle.laws.proofs.Order.{picked}
-use Rattle.laws.proofs.Parts.{length-part}
-use Rattle.schema.specs.Schema.{ClientMessage}
-use Rattle.encoding.specs.Check.{checkOf}
-use Rattle.fields.specs.Fields.{fieldAt, onField, fieldsFrom, fieldsAt, among}
-use Rattle.fields.specs.Items.{Item, none, number, bytes, itemOf, items, lastFrom, lastItem, bytesOf}
-use Rattle.encoding.specs.declared.Checked.{Checked}
-use Rattle.encoding.specs.declared.Checked.the-variants as checked
-use Rattle.fields.specs.declared.Field.{Field}
-use Rattle.fields.specs.declared.Field.the-variants as field
-use Rattle.fields.proofs.Follow.{FieldRead, field-read}
-use Rattle.encoding.proofs.Walk.{alone}
-use Rattle.message.specs.Message as m
-use Rattle.message.specs.Message.{Bytes, Exit, Client, acceptMsg, rejectMsg, exitMsg, restartMsg, alertMsg, ioBuf, winsizeEvent, suspendEvent, helloMsg, clientMember}
+use Rattle.base_laws.specs.Base.{pick}
+use Rattle.base_laws.proofs.Order.{picked}
+use Rattle.base_laws.proofs.Parts.{length-part}
+use Rattle.wire_schema.specs.Schema.{ClientMessage}
+use Rattle.wire_check_field.specs.Check.{checkOf}
+use Rattle.wire_fields.specs.Fields.{fieldAt, onField, fieldsFrom, fieldsAt, among}
+use Rattle.wire_fields.specs.Items.{Item, none, number, bytes, itemOf, items, lastFrom, lastItem, bytesOf}
+use Rattle.wire_check_field.specs.declared.Checked.{Checked}
+use Rattle.wire_check_field.specs.declared.Checked.the-variants as checked
+use Rattle.wire_fields.specs.declared.Field.{Field}
+use Rattle.wire_fields.specs.declared.Field.the-variants as field
+use Rattle.wire_fields.proofs.Follow.{FieldRead, field-read}
+use Rattle.wire_check_field.proofs.Walk.{alone}
+use Rattle.wire_message.specs.Message as m
+use Rattle.wire_message.specs.Message.{Bytes, Exit, Client, acceptMsg, rejectMsg, exitMsg, restartMsg, alertMsg, ioBuf, winsizeEvent, suspendEvent, helloMsg, clientMember}
 use Rattle.wire.specs.Read.{Reading, value, after, member, clientMessage, received}
 
 -- ---- the items of some bytes take no more than these

@@ -3,15 +3,15 @@ use Prim.Native.Nat.{ℕ}
 use mathlib.Core.Path.{_≡_}
 use mathlib.Core.List.{List, [], _∷_}
 use lib.IntN.{ℤ, pos, negsuc}
-use Rattle.laws.specs.Base.{part}
-use Rattle.frame.specs.Frame.{cutOf}
-use Rattle.frame.specs.declared.Cut.the-variants as cut
-use Rattle.varint.specs.Varint.{varintAt}
-use Rattle.fields.specs.Items.{items}
-use Rattle.varint.specs.declared.Varint.{Varint}
-use Rattle.varint.specs.declared.Varint.the-variants.{Value, PastEnd, TooLong}
-use Rattle.message.specs.Signed.{int64, int32}
-use Rattle.message.specs.Message.{timeSpec, ioBuf, commitPoint}
+use Rattle.base_laws.specs.Base.{part}
+use Rattle.wire_frame.specs.Frame.{cutOf}
+use Rattle.wire_frame.specs.declared.Cut.the-variants as cut
+use Rattle.wire_varint.specs.Varint.{varintAt}
+use Rattle.wire_fields.specs.Items.{items}
+use Rattle.wire_varint.specs.declared.Varint.{Varint}
+use Rattle.wire_varint.specs.declared.Varint.the-variants.{Value, PastEnd, TooLong}
+use Rattle.wire_message.specs.Signed.{int64, int32}
+use Rattle.wire_message.specs.Message.{timeSpec, ioBuf, commitPoint}
 use Rattle.wire.specs.Read.{value, clientMessage, serverMessage}
 
 -- the number that a varint's bytes give by a reading of its bits, with the place past it

@@ -1,12 +1,12 @@
 -- What the answers of the readers of ClientMessage and ServerMessage stand for, in the message's bytes s.
 use Prim.Native.Nat.{ℕ}
 use mathlib.Core.List.{List}
-use Rattle.laws.specs.Base.{part}
-use Rattle.fields.specs.Items.{items}
-use Rattle.client_walk.specs.declared.ClientRead.{ClientRead}
-use Rattle.client_walk.specs.declared.ClientRead.the-variants as client
-use Rattle.message.specs.Message.{Client, Server, clientMember, serverMember, ioBuf}
-use Rattle.message.specs.Places.{timeValue}
+use Rattle.base_laws.specs.Base.{part}
+use Rattle.wire_fields.specs.Items.{items}
+use Rattle.wire_walk_client.specs.declared.ClientRead.{ClientRead}
+use Rattle.wire_walk_client.specs.declared.ClientRead.the-variants as client
+use Rattle.wire_message.specs.Message.{Client, Server, clientMember, serverMember, ioBuf}
+use Rattle.wire_message.specs.Places.{timeValue}
 use Rattle.wire.specs.Read.{Reading, value, refused}
 use Rattle.wire.specs.declared.ServerRead.{ServerRead}
 use Rattle.wire.specs.declared.ServerRead.the-variants as server

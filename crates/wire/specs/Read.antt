@@ -3,14 +3,14 @@ use Prim.Native.Nat.{ℕ}
 use mathlib.Core.List.{List}
 use mathlib.Core.Bool.{Bool, true, false}
 use lib.Dec.{eqb}
-use Rattle.laws.specs.Base.{pick}
-use Rattle.schema.specs.Schema.{ClientMessage, ServerMessage}
-use Rattle.encoding.specs.Check.{checkOf}
-use Rattle.fields.specs.Items.{Item, none, number, bytes, items, lastItem, bytesOf}
-use Rattle.encoding.specs.declared.Checked.{Checked}
-use Rattle.encoding.specs.declared.Checked.the-variants as checked
-use Rattle.message.specs.Message.{Client, Server, clientMember, serverMember}
-use Rattle.range.specs.Range.{inRange}
+use Rattle.base_laws.specs.Base.{pick}
+use Rattle.wire_schema.specs.Schema.{ClientMessage, ServerMessage}
+use Rattle.wire_check_field.specs.Check.{checkOf}
+use Rattle.wire_fields.specs.Items.{Item, none, number, bytes, items, lastItem, bytesOf}
+use Rattle.wire_check_field.specs.declared.Checked.{Checked}
+use Rattle.wire_check_field.specs.declared.Checked.the-variants as checked
+use Rattle.wire_message.specs.Message.{Client, Server, clientMember, serverMember}
+use Rattle.wire_range.specs.Range.{inRange}
 
 -- a message's value, or the number of its refusal
 pub data Reading (A : Type 0) : Type 0 where

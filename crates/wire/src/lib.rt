@@ -1,15 +1,15 @@
 // Reading a message: the refusals in document 01's order, and the members of ClientMessage and ServerMessage. This crate, with
 // `message` for the members' values and `range` for their ranges, is what a session builds on.
-use client_walk::ClientRead;
-use encoding::Checked;
-use fields::Last;
-use fields::last_in;
-use message_check::check;
-use plain::client;
-use range::in_range;
+use wire_check::check;
+use wire_check_field::Checked;
+use wire_fast_client::client;
+use wire_fields::Last;
+use wire_fields::last_in;
+use wire_range::in_range;
+use wire_walk_client::ClientRead;
 ghost use mathlib.Core.Path.{_≡_};
-ghost use Rattle.fields.specs.Items.{items, lastItem};
-ghost use Rattle.client_walk.specs.Client.{clientOf};
+ghost use Rattle.wire_fields.specs.Items.{items, lastItem};
+ghost use Rattle.wire_walk_client.specs.Client.{clientOf};
 ghost use Rattle.wire.specs.Read.{isAbsent, noMember, decodeNumber, readNumber, clientMessage, serverMessage};
 ghost use Rattle.wire.specs.Places.{clientValue, serverValue};
 

@@ -1,6 +1,6 @@
-use Rattle.window.specs.Window.{Within}
-use Rattle.laws.proofs.Parts.{length-part}
-use Rattle.laws.specs.Base.{part}
+use Rattle.replay_window.specs.Window.{Within}
+use Rattle.base_laws.proofs.Parts.{length-part}
+use Rattle.base_laws.specs.Base.{part}
 use lib.Seq.{length-take-le}
 -- The invariant: the bytes at hand, from one place up to another, lie in the window, and the three buffers keep their lengths.
 use Prim.Native.Nat.{_≤_}

@@ -1,5 +1,5 @@
 use Rattle.wire.specs.Read.{isAbsent}
-use Rattle.fields.proofs.Items.{last-means}
+use Rattle.wire_fields.proofs.Items.{last-means}
 use mathlib.Core.Path.{sym, _∙_}
 use borrow.Author.Needs.{needs}
 use Rattle.wire.proofs.is_absent.Statement.{statement}

@@ -1,6 +1,6 @@
 use Rattle.wire.specs.Places.{serverValue}
 use Rattle.wire.specs.Read.{serverMessage, after, member}
-use Rattle.fields.proofs.Items.{last-means}
+use Rattle.wire_fields.proofs.Items.{last-means}
 use mathlib.Core.Path.{sym, _∙_}
 use borrow.Author.Needs.{needs}
 use Rattle.wire.proofs.server_message.Statement.{statement}

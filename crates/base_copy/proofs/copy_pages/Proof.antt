@@ -1,0 +1,86 @@
+use mathlib.Core.Path.{_≡_, refl, _∙_}
+use Prim.Native.Nat.{_+_, _-_, _%_, _≤_}
+use native.Mathlib.Omega.{arith}
+use lib.ListN.{length, take}
+use lib.Seq.{paste-zero}
+use borrow.Author.Needs.{needs}
+use Rattle.base_laws.specs.Base.{splice}
+use Rattle.base_copy.proofs.Blocks.{pasted, part-on}
+use Rattle.base_copy.proofs.copy_pages.Statement.{statement}
+use Rattle.base_copy.proofs.copy_pages.Tie as tie
+
+abbrev Inv-loop : tie.InvT-loop
+Inv-loop area₀ at bytes n j₀ area j = ((j ≤ n) × (j % 16384 ≡ 0)) × (area ≡ splice area₀ at (take j bytes)) × (length area ≡ length area₀)
+
+abbrev μ-loop : tie.MeasureT-loop
+μ-loop area₀ at bytes n j₀ area j = n - j
+
+loop-holds : tie.Need-loop-holds Inv-loop μ-loop
+loop-holds c =
+    let a = c .before .before .args in (
+      (omega arith, omega arith),
+      paste-zero (a .area .now) (a .at) (a .bytes .now) ∙ pasted (a .area .now) (a .at) (a .bytes .now) 0 (omega arith),
+      refl,
+    )
+
+sub-loop : tie.Need-sub-loop Inv-loop μ-loop
+sub-loop c = search needs
+
+add-copy-page : tie.Need-add-copy-page Inv-loop μ-loop
+add-copy-page c = search needs
+
+add-copy-page-2 : tie.Need-add-copy-page-2 Inv-loop μ-loop
+add-copy-page-2 c = search needs
+
+sub-copy-page : tie.Need-sub-copy-page Inv-loop μ-loop
+sub-copy-page c = search needs
+
+part-copy-page-start : tie.Need-part-copy-page-start Inv-loop μ-loop
+part-copy-page-start c = search needs
+
+part-copy-page-end : tie.Need-part-copy-page-end Inv-loop μ-loop
+part-copy-page-end c = search needs
+
+copy-page-requires : tie.Need-copy-page-requires Inv-loop μ-loop
+copy-page-requires c κs = search needs
+
+add-j : tie.Need-add-j Inv-loop μ-loop
+add-j c = search needs
+
+loop-less : tie.Need-loop-less Inv-loop μ-loop
+loop-less c = search needs
+
+loop-again : tie.Need-loop-again Inv-loop μ-loop
+loop-again c =
+    let l = c .before .before .before .before .before .before .loop in
+    let a = c .before .before .before .before .before .before .before .before .before .args in (
+      (omega arith, omega arith),
+      part-on (a .area .now) (l .area) _ (a .at) (a .bytes .now) (l .j) (l .j + 16384) (omega arith) (omega arith) (omega arith) (l .inv .1) (c .before .before .copy-page .ensures),
+      search needs,
+    )
+
+same-length : tie.Need-same-length Inv-loop μ-loop
+same-length c = search needs
+
+returns : tie.Need-returns Inv-loop μ-loop
+returns c = let l = c .before .loop in (omega arith, l .inv .1)
+
+pub copy-pages-spec : {M : Type 1} → statement M
+copy-pages-spec =
+    tie.close
+    (tie.spec
+    Inv-loop
+    μ-loop
+    loop-holds
+    sub-loop
+    add-copy-page
+    add-copy-page-2
+    sub-copy-page
+    part-copy-page-start
+    part-copy-page-end
+    copy-page-requires
+    add-j
+    loop-less
+    loop-again
+    same-length
+    returns)

@@ -1,0 +1,41 @@
+use Rattle.wire_fields.specs.Fields.{memberFrom}
+use mathlib.Core.Path.{sym, _∙_}
+use borrow.Author.Needs.{needs}
+use Rattle.c_read.proofs.member_among.Statement.{statement}
+use Rattle.c_read.proofs.member_among.Tie as tie
+
+last-in-requires : tie.Need-last-in-requires
+last-in-requires c κs = search needs
+
+enum-told : tie.Need-enum-told
+enum-told c = search needs
+
+enum-known-number : tie.Need-enum-known-number
+enum-known-number c = search needs
+
+enum-known-number-2 : tie.Need-enum-known-number-2
+enum-known-number-2 c = search needs
+
+returns : tie.Need-returns
+unfolding memberFrom
+returns c = rw (sym (c .before .before .last-in .ensures) ∙ c .enum-told .given .1)
+
+returns-2 : tie.Need-returns-2
+unfolding memberFrom
+returns-2 c = rw (sym (c .before .before .before .last-in .ensures) ∙ c .before .number .given .1)
+
+returns-3 : tie.Need-returns-3
+unfolding memberFrom
+returns-3 c = rw (sym (c .before .before .before .last-in .ensures) ∙ c .before .number2 .given .1)
+
+pub member-among-spec : {M : Type 1} → statement M
+member-among-spec =
+    tie.close
+    (tie.spec
+    last-in-requires
+    enum-told
+    enum-known-number
+    enum-known-number-2
+    returns
+    returns-2
+    returns-3)

@@ -1,0 +1,30 @@
+use mathlib.Core.Path.{sym, ap, _∙_}
+use Rattle.session.specs.Step.{tick}
+use Rattle.c_session.specs.Session.{tickNumber}
+use borrow.Author.Needs.{needs}
+use Rattle.c_session.proofs.sudolog_session_tick.Statement.{statement}
+use Rattle.c_session.proofs.sudolog_session_tick.Tie as tie
+
+load-requires : tie.Need-load-requires
+load-requires c κs = search needs
+
+tick-requires : tie.Need-tick-requires
+tick-requires c κs = search needs
+
+enum-told : tie.Need-enum-told
+enum-told c = search needs
+
+enum-known-t : tie.Need-enum-known-t
+enum-known-t c = search needs
+
+returns : tie.Need-returns
+unfolding tickNumber
+returns c = rw (sym (c .before .before .tick .ensures ∙ ap tick (c .before .before .before .load .ensures)) ∙ c .enum-told .given .1)
+
+returns-2 : tie.Need-returns-2
+unfolding tickNumber
+returns-2 c = rw (sym (c .before .before .before .tick .ensures ∙ ap tick (c .before .before .before .before .load .ensures)) ∙ c .before .t .given .1)
+
+pub sudolog-session-tick-spec : {M : Type 1} → statement M
+sudolog-session-tick-spec =
+    tie.close (tie.spec load-requires tick-requires enum-told enum-known-t returns returns-2)

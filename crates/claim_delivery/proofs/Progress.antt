@@ -1,0 +1,338 @@
+-- From any state that a list can reach, the sender can go on to a finished file.
+use Prim.Native.Nat.{ℕ, suc, _+_, _≤_, _<_}
+use native.Mathlib.Nat.{le-refl}
+use native.Mathlib.Omega.{arith}
+use mathlib.Core.Path.{_≡_, refl, ap, sym, _∙_, subst}
+use mathlib.Core.Logic.{inl, inr}
+use mathlib.Core.Bool.{Bool, true, false}
+use mathlib.Core.Option.{Option, none, some}
+use mathlib.Core.List.{List, [], _∷_, _++_, append-nil, nil≢cons}
+use lib.Dec.{leb}
+use lib.ListN.{length, take, drop-of-length-le}
+use lib.Seq.{take-length}
+use borrow.Author.Tests.{ne-eqb}
+use Rattle.base_laws.specs.Base.{pick}
+use Rattle.wire_message.specs.Message.{Bytes}
+use Rattle.file_format.specs.File.{fileBytes, limit}
+use Rattle.session.specs.Step as session
+use Rattle.claim_delivery.specs.Recording.{TimedRecord, Recording, records, time, greater, All}
+use Rattle.claim_delivery.specs.Sender.{Place, Sent, accept, restart, timed, exit, rest, messages, Says, Lines}
+use Rattle.claim_delivery.specs.Host.{frames, Answer, toTick, toMessage, Desk}
+use Rattle.claim_delivery.specs.World.{Connection, World, fresh, Event, opening, bytes, tick, arrival, break, withConnection, areaOf, opened, desk, settled, cameIn, arrived, inside, outside, happens, run, Fresh, Proper, AllProper}
+use Rattle.claim_delivery.specs.Demand.{Listed, Delivery, end}
+use Rattle.claim_delivery.specs.Progress.{Sendable, underWay, TellsEnd, Done, GoesOn, Progress}
+use Rattle.claim_delivery.proofs.Restarting.{restartable}
+use Rattle.claim_delivery.proofs.Values.{Storable}
+use Rattle.claim_delivery.proofs.Sizes.{storable-sent}
+use Rattle.claim_delivery.proofs.Cutting.{Short, drain-short, none-left}
+use Rattle.claim_delivery.proofs.Files.{all-map}
+use Rattle.claim_delivery.proofs.Desk.{AnswerOk, Lead, Stage, beginning, resuming, logging, over, Inv}
+use Rattle.claim_delivery.proofs.Runs.{Whole, Link, LinkOk, WorldOk, run-ok, LatestOk}
+use Rattle.claim_delivery.proofs.Reached.{reached}
+
+-- ---- lists one behind the other
+
+run-append : (R : Recording) (es fs : List Event) (w : World) → run R (es ++ fs) w ≡ run R fs (run R es w)
+unfolding run
+run-append R [] fs w = refl
+run-append R (e ∷ es) fs w = run-append R es fs (happens R w (w .connection) e)
+
+proper-append : (R : Recording) (es fs : List Event) (w : World) → AllProper R es w → AllProper R fs (run R es w) → AllProper R (es ++ fs) w
+unfolding run AllProper
+proper-append R [] fs w p q = q
+proper-append R (e ∷ es) fs w p q = (p .0, proper-append R es fs (happens R w (w .connection) e) (p .1) q)
+
+-- ---- there is always a fresh area: those from some number on are unused
+
+abbrev ConnectionBelow : ℕ → Option Connection → Type 0
+ConnectionBelow n none = Unit {0}
+ConnectionBelow n (some c) = c .area < n
+
+abbrev PlaceBelow : ℕ → Option Place → Type 0
+PlaceBelow n none = Unit {0}
+PlaceBelow n (some p) = p .area < n
+
+record Unused (w : World) (n : ℕ) : Type 0 where
+  from : (a : ℕ) → n ≤ a → w .used a ≡ 0
+  connected : ConnectionBelow n (w .connection)
+  latest-there : PlaceBelow n (w .latest)
+
+-- some number
+record Bounded (w : World) : Type 0 where
+  bound : ℕ
+  unused : Unused w bound
+
+place-more : (n m : ℕ) → n ≤ m → (p : Option Place) → PlaceBelow n p → PlaceBelow m p
+place-more n m h none b = tt
+place-more n m h (some p) b = omega arith
+
+area-below : (n a : ℕ) (p : Option Place) → PlaceBelow n p → areaOf p a < n + suc a
+area-below n a none b = omega arith
+area-below n a (some p) b = omega arith
+
+opened-bounded : (w : World) (bs : List Bytes) (a : ℕ) → Bounded w → Bounded (opened w bs a)
+unfolding opened
+opened-bounded w bs a b = record {
+  bound = b .bound + suc a;
+  unused = record {
+    from = λ x h. b .unused .from x (omega arith);
+    connected = area-below (b .bound) a (w .latest) (b .unused .latest-there);
+    latest-there = place-more (b .bound) (b .bound + suc a) (omega arith) (w .latest) (b .unused .latest-there);
+  };
+}
+
+outside-bounded : (w : World) (e : Event) → Bounded w → Bounded (outside w e)
+unfolding outside
+outside-bounded w (opening h bs a) b = go (w .stopped)
+  where
+    go : (x : Bool) → Bounded (pick x w (opened w bs a))
+    go true = b
+    go false = opened-bounded w bs a b
+outside-bounded w (bytes k) b = b
+outside-bounded w tick b = b
+outside-bounded w arrival b = b
+outside-bounded w break b = b
+
+-- in a connection, whose area is below the bound
+module _ (R : Recording) (w : World) (c : Connection) (n : ℕ) (from : (a : ℕ) → n ≤ a → w .used a ≡ 0) (here : c .area < n) (latest : PlaceBelow n (w .latest)) where
+  same-areas : (l : Option Place) (stopped : Bool) (part : Bytes) (o : Option Connection) → PlaceBelow n l → ConnectionBelow n o → Bounded (withConnection w l stopped part o)
+  same-areas l stopped part o p q = record { bound = n; unused = record { from = from; connected = q; latest-there = p } }
+
+  settled-bounded : (d : Desk) (line part : Bytes) → Bounded (settled w c d line part)
+  settled-bounded d line part = record {
+    bound = n;
+    unused = record { from = λ a h. rw (ne-eqb (c .area) a (λ e. omega arith)) (from a h); connected = here; latest-there = latest };
+  }
+
+  arrived-bounded : (out : List Answer) → Bounded w → Bounded (arrived w c out)
+  unfolding arrived
+  arrived-bounded [] b = b
+  arrived-bounded (toTick t ∷ out) b = same-areas (some (record { area = c .area; at = t })) (w .stopped) (w .part) (some _) here here
+  arrived-bounded (toMessage k p ∷ out) b = same-areas (w .latest) _ (w .part) (some _) latest here
+
+  inside-bounded : (e : Event) → Bounded w → Bounded (inside R w c e)
+  unfolding inside cameIn
+  inside-bounded (opening h bs a) b = b
+  inside-bounded (bytes k) b = settled-bounded _ _ _
+  inside-bounded tick b = same-areas (w .latest) (w .stopped) (w .part) (some _) latest here
+  inside-bounded arrival b = arrived-bounded (c .out) b
+  inside-bounded break b = same-areas (w .latest) (w .stopped) [] none latest tt
+
+happens-bounded : (R : Recording) (w : World) (o : Option Connection) (e : Event) → w .connection ≡ o → Bounded w → Bounded (happens R w o e)
+unfolding happens
+happens-bounded R w none e q b = outside-bounded w e b
+happens-bounded R w (some c) e q b = inside-bounded R w c (b .bound) (b .unused .from) (rw q at (b .unused .connected)) (b .unused .latest-there) e b
+
+run-bounded : (R : Recording) (es : List Event) (w : World) → Bounded w → Bounded (run R es w)
+unfolding run
+run-bounded R [] w b = b
+run-bounded R (e ∷ es) w b = run-bounded R es (happens R w (w .connection) e) (happens-bounded R w (w .connection) e refl b)
+
+fresh-bounded : (blank : ℕ → Bytes) → Bounded (fresh blank)
+unfolding fresh
+fresh-bounded blank = record { bound = 0; unused = record { from = λ a h. refl; connected = tt; latest-there = tt } }
+
+-- ---- the sender's messages
+
+-- messages that say these
+record Lined (ms : List Sent) : Type 0 where
+  bodies : List Bytes
+  lines : Lines bodies ms
+
+lined-more : (m : Sent) (ms : List Sent) → (s : Bytes) × Says s m → Lined ms → Lined (m ∷ ms)
+lined-more m ms s l = record { bodies = s .0 ∷ l .bodies; lines = (s .1, l .lines) }
+
+abbrev SaysTimed : TimedRecord → Type 0
+SaysTimed t = (s : Bytes) × Says s (timed t)
+
+lined-rest : (R : Recording) → Sendable R → (ts : List TimedRecord) → All SaysTimed ts → Lined (rest R ts)
+unfolding rest
+lined-rest R s [] a = lined-more (exit (R .exit)) [] (s .exits) (record { bodies = []; lines = tt })
+lined-rest R s (t ∷ ts) a = lined-more (timed t) (rest R ts) (a .0) (lined-rest R s ts (a .1))
+
+all-greater : (P : TimedRecord → Type 0) (sum T : ℕ) (ts : List TimedRecord) → All P ts → All P (greater sum T ts)
+unfolding greater
+all-greater P sum T [] a = tt
+all-greater P sum T (t ∷ ts) a = go (leb (sum + time t) T) (all-greater P (sum + time t) T ts (a .1))
+  where
+    go : (b : Bool) → All P (greater (sum + time t) T ts) → All P (pick b (greater (sum + time t) T ts) (t ∷ greater (sum + time t) T ts))
+    go true r = r
+    go false r = (a .0, r)
+
+lined-messages : (R : Recording) → Sendable R → (p : Option Place) → ((q : Place) → p ≡ some q → (s : Bytes) × Says s (restart (q .at))) → Lined (messages R p)
+unfolding messages
+lined-messages R s none r = lined-more (accept (R .accept)) (rest R (R .timed)) (s .accepts) (lined-rest R s (R .timed) (s .times))
+lined-messages R s (some q) r =
+    lined-more (restart (q .at)) (rest R (greater 0 (q .at) (R .timed))) (r q refl)
+    (lined-rest R s (greater 0 (q .at) (R .timed)) (all-greater SaysTimed 0 (q .at) (R .timed) (s .times)))
+
+-- ---- a connection with nothing left to come is over
+
+some-rest : (R : Recording) (ts : List TimedRecord) → [] ≡ rest R ts → ⊥
+unfolding rest
+some-rest R [] e = nil≢cons e
+some-rest R (t ∷ ts) e = nil≢cons e
+
+no-lead : {m : Sent} {l : List Sent} (R : Recording) (d : Desk) → Lead (d .session .state) [] (m ∷ l) → ⊥
+no-lead R d (inl (h, e)) = nil≢cons e
+no-lead R d (inr (h, e)) = nil≢cons e
+
+over-at-end : (R : Recording) (c : ℕ) (p : Option ℕ) (d : Desk) → Inv R c p [] d → d .n ≡ length (records R)
+over-at-end R c p d i = go (i .stage)
+  where
+    go : Stage R p [] d → d .n ≡ length (records R)
+    go (beginning l z) = absurd (no-lead R d l)
+    go (resuming T l q o) = absurd (no-lead R d l)
+    go (logging l) = absurd (some-rest R (l .coming) (l .coming-is))
+    go (over h z) = z
+
+lines-none : (ms : List Sent) → Lines [] ms → ms ≡ []
+lines-none [] l = refl
+lines-none (m ∷ ms) l = absurd l
+
+-- ---- one more opening, and all its bytes
+
+module _ (R : Recording) (blank : ℕ → Bytes) where
+  -- a connection with nothing lined up and no whole frame at the host has come to the recording's end
+  came-whole : (w : World) (c : Connection) → WorldOk R blank w → w .connection ≡ some c → c .line ≡ [] → Short (w .part) → w .book (c .area) ≡ length (records R)
+  unfolding desk
+  came-whole w c ok e l s =
+      let k : Link R blank w c = subst (LinkOk R blank w) e (ok .link) in
+      let none-more : k .bodies ≡ [] = none-left (k .bodies) (w .part) (k .fit) (sym (append-nil (w .part)) ∙ ap (λ (z : Bytes). w .part ++ z) (sym l) ∙ k .lined) s in
+      let end : k .coming ≡ [] = lines-none (k .coming) (subst (λ (b : List Bytes). Lines b (k .coming)) none-more (k .read-as)) in
+      over-at-end R (length (blank (c .area))) (k .sees) (desk w c) (subst (λ (ms : List Sent). Inv R (length (blank (c .area))) (k .sees) ms (desk w c)) end (k .inv))
+
+  -- bytes are always proper
+  bytes-proper : (w : World) (o : Option Connection) (k : ℕ) → Proper R w o (bytes k)
+  unfolding Proper
+  bytes-proper w none k = tt
+  bytes-proper w (some c) k = tt
+
+  -- the list that goes on from a world
+  record Goes (w : World) : Type 0 where
+    more : List Event
+    proper : AllProper R more w
+    whole : Whole R (run R more w .book)
+
+  module _ (storable : Storable R) (fits : (a : ℕ) → length (fileBytes (records R)) ≤ length (blank a)) (small : (a : ℕ) → length (blank a) ≤ 1073741824) where
+    module _ (w : World) (ok : WorldOk R blank w) (unconnected : w .connection ≡ none) (on : w .stopped ≡ false) (a : ℕ) (is-fresh : Fresh w (w .latest) a)
+        (l : Lined (messages R (w .latest))) where
+      line : Bytes
+      line = frames (l .bodies)
+
+      last : List Event
+      last = opening false (l .bodies) a ∷ bytes (length line) ∷ []
+
+      start : World
+      start = opened w (l .bodies) a
+
+      connection : Connection
+      connection = record { area = areaOf (w .latest) a; session = session.newSession; line = line; out = [] }
+
+      finish : World
+      finish = inside R start connection (bytes (length line))
+
+      opens : happens R w (w .connection) (opening false (l .bodies) a) ≡ start
+      unfolding happens outside start
+      opens = rw (unconnected, on)
+
+      runs : run R last w ≡ finish
+      unfolding last run happens finish start connection opened line
+      runs = ap (λ (x : World). happens R x (x .connection) (bytes (length line))) opens
+
+      is-proper : AllProper R last w
+      unfolding last AllProper Proper
+      is-proper =
+          let x : World = happens R w (w .connection) (opening false (l .bodies) a) in
+          (subst (λ (o : Option Connection). Proper R w o (opening false (l .bodies) a)) (sym unconnected) (λ e. (l .lines, is-fresh)), (bytes-proper x (x .connection) (length line), tt))
+
+      finish-ok : WorldOk R blank finish
+      finish-ok = subst (WorldOk R blank) runs (run-ok R blank storable fits small last w is-proper ok)
+
+      finish-whole : finish .book (areaOf (w .latest) a) ≡ length (records R)
+      unfolding finish start connection inside cameIn opened line
+      finish-whole =
+          came-whole finish _ finish-ok refl (drop-of-length-le line (le-refl (length line)))
+          (drain-short (length (w .part ++ take (length line) line)) (w .part ++ take (length line) line) (le-refl _))
+
+      goes-last : Goes w
+      goes-last = record { more = last; proper = is-proper; whole = record { place = areaOf (w .latest) a; is-whole = ap (λ (x : World). x .book (areaOf (w .latest) a)) runs ∙ finish-whole } }
+
+    fresh-at : (w : World) (b : Bounded w) (p : Option Place) → Fresh w p (b .bound)
+    fresh-at w b none = b .unused .from (b .bound) (le-refl (b .bound))
+    fresh-at w b (some p) = tt
+
+    -- the latest point is within the limit
+    point-within : (w : World) → WorldOk R blank w → (p : Place) → w .latest ≡ some p → p .at ≤ limit
+    point-within w ok p e =
+        let g : LatestOk R (w .book) (some p) = subst (LatestOk R (w .book)) e (ok .latest-ok) in
+        omega (arith, g .below, storable .valid .within-limit)
+
+    module _ (sends : Sendable R) where
+      unconnected-goes : (w : World) → WorldOk R blank w → Bounded w → w .connection ≡ none → Goes w
+      unfolding run AllProper
+      unconnected-goes w ok b e = go (w .stopped) refl
+        where
+          go : (x : Bool) → w .stopped ≡ x → Goes w
+          go true s = record { more = []; proper = tt; whole = ok .stopped-ok s }
+          go false s =
+              goes-last w ok e s (b .bound) (fresh-at w b (w .latest))
+              (lined-messages R sends (w .latest) (λ p q. restartable (p .at) (point-within w ok p q)))
+
+      -- a connection is broken first
+      goes : (w : World) → WorldOk R blank w → Bounded w → Goes w
+      unfolding run AllProper Proper happens inside
+      goes w ok b = go (w .connection) refl
+        where
+          go : (o : Option Connection) → w .connection ≡ o → Goes w
+          go none e = unconnected-goes w ok b e
+          go (some c) e =
+              let proper : Proper R w (w .connection) break = subst (λ (o : Option Connection). Proper R w o break) (sym e) tt in
+              let broken : happens R w (w .connection) break ≡ inside R w c break = ap (λ (o : Option Connection). happens R w o break) e in
+              let ok′ : WorldOk R blank (inside R w c break) = subst (WorldOk R blank) broken (run-ok R blank storable fits small (break ∷ []) w (proper, tt) ok) in
+              let b′ : Bounded (inside R w c break) = subst Bounded broken (run-bounded R (break ∷ []) w b) in
+              let g : Goes (inside R w c break) = unconnected-goes (inside R w c break) ok′ b′ refl in
+              record {
+                more = break ∷ g .more;
+                proper = (proper, subst (AllProper R (g .more)) (sym broken) (g .proper));
+                whole = subst (λ (x : World). Whole R (run R (g .more) x .book)) (sym broken) (g .whole);
+              }
+
+-- ---- the claim
+
+module _ (R : Recording) where
+  done : (blank : ℕ → Bytes) (w : World) → WorldOk R blank w → Whole R (w .book) → Done R w
+  done blank w ok x = record {
+    area = x .place;
+    whole = ok .areas (x .place) .lies .shows ∙ ap (λ (k : ℕ). fileBytes (take k (records R))) (x .is-whole) ∙ ap fileBytes (take-length (records R));
+  }
+
+  tells : (n : ℕ) (a : Answer) → AnswerOk R n a → TellsEnd R a
+  tells n (toTick T) h = h .below
+  tells n (toMessage k p) h = h .is-total
+
+  under-way : (blank : ℕ → Bytes) (w : World) (o : Option Connection) → LinkOk R blank w o → All (TellsEnd R) (underWay o)
+  unfolding desk
+  under-way blank w none l = tt
+  under-way blank w (some c) l = all-map (AnswerOk R (w .book (c .area))) (TellsEnd R) (tells (w .book (c .area))) (c .out) (l .inv .out-ok)
+
+on-from : (d : Delivery) → Sendable (d .recording) → GoesOn d
+on-from d s =
+    let R : Recording = d .recording in
+    let x : Goes R (d .blank) (end d) = goes R (d .blank) (storable-sent R (d .given .valid) s) (d .given .fits) (d .given .in-range) s (end d) (reached d)
+    (run-bounded R (d .events) (fresh (d .blank)) (fresh-bounded (d .blank))) in
+    let all : Listed (d .blank) R (d .events ++ x .more) = proper-append R (d .events) (x .more) (fresh (d .blank)) (d .listed) (x .proper) in
+    let longer : Delivery = record { recording = R; blank = d .blank; given = d .given; events = d .events ++ x .more; listed = all } in
+    record {
+      more = x .more;
+      listed = all;
+      done = done R (d .blank) (end longer) (reached longer)
+          (subst (λ (w : World). Whole R (w .book)) (sym (run-append R (d .events) (x .more) (fresh (d .blank)))) (x .whole));
+    }
+
+pub progress : Progress
+progress = record {
+  stopped = λ d h. done (d .recording) (d .blank) (end d) (reached d) (reached d .stopped-ok h);
+  points = λ d. under-way (d .recording) (d .blank) (end d) (end d .connection) (reached d .link);
+  goes-on = on-from;
+}

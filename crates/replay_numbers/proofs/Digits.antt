@@ -1,0 +1,17 @@
+-- The digits of a number, the last one after the others. Assumes nothing.
+use Prim.Native.Nat.{ℕ, zero, suc, _+_, _-_, _/_, _%_, _≤_, _<_}
+use native.Mathlib.Omega.{arith}
+use mathlib.Core.Path.{_≡_, refl}
+use mathlib.Core.List.{[], _∷_, _++_}
+use borrow.Author.Tests.{lt-ltb, le-ltb}
+use Rattle.replay_numbers.specs.Words.{digit, digits}
+
+pub digits-one : (k n : ℕ) → (k ≡ 0 → ⊥) → n < 10 → digits k n ≡ digit n ∷ []
+unfolding digits
+digits-one zero n more h = absurd (more refl)
+digits-one (suc k) n more h = rw (lt-ltb n 10 h)
+
+pub digits-more : (k n : ℕ) → (k ≡ 0 → ⊥) → 10 ≤ n → digits k n ≡ digits (k - 1) (n / 10) ++ (digit (n % 10) ∷ [])
+unfolding digits
+digits-more zero n more h = absurd (more refl)
+digits-more (suc k) n more h = let e : suc k - 1 ≡ k = omega arith in rw (e, le-ltb n 10 h)

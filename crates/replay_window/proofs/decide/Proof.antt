@@ -1,0 +1,58 @@
+use lib.ListN.{length}
+use Rattle.replay_window.specs.Window.{byCut, nextOf}
+use Rattle.replay_window.proofs.Cuts.{Sized, sized}
+use borrow.Author.Tests.{lt-ltb, le-ltb}
+use native.Mathlib.Omega.{arith}
+use mathlib.Core.Path.{sym, subst, _∙_}
+use borrow.Author.Needs.{needs}
+use Rattle.replay_window.proofs.decide.Statement.{statement}
+use Rattle.replay_window.proofs.decide.Tie as tie
+
+cut-frame-requires : tie.Need-cut-frame-requires
+cut-frame-requires c κs = search needs
+
+enum-known-missing : tie.Need-enum-known-missing
+enum-known-missing c = search needs
+
+add-size : tie.Need-add-size
+add-size c = let s = c .before .before .before .before .before .args .s .now in let h = subst (Sized (length s)) (sym (c .before .before .before .cut-frame .ensures) ∙ c .before .missing .given .1) (sized s) in omega arith
+
+returns : tie.Need-returns
+unfolding nextOf byCut
+returns c = rw (sym (c .before .before .before .before .cut-frame .ensures) ∙ c .before .before .missing .given .1, lt-ltb _ _ (c .if1 .taken))
+
+enum-known-length : tie.Need-enum-known-length
+enum-known-length c = search needs
+
+add-t10 : tie.Need-add-t10
+add-t10 c = let s = c .before .before .before .before .before .args .s .now in let h = subst (Sized (length s)) (sym (c .before .before .before .cut-frame .ensures) ∙ c .before .length .given .1) (sized s) in omega arith
+
+enum-told : tie.Need-enum-told
+enum-told c = search needs
+
+returns-2 : tie.Need-returns-2
+unfolding nextOf byCut
+returns-2 c = rw (sym (c .before .before .before .before .cut-frame .ensures) ∙ c .before .before .missing .given .1, le-ltb _ _ (c .if1 .left))
+
+returns-3 : tie.Need-returns-3
+unfolding nextOf byCut
+returns-3 c = rw (sym (c .before .before .before .cut-frame .ensures) ∙ c .before .length .given .1)
+
+returns-4 : tie.Need-returns-4
+unfolding nextOf byCut
+returns-4 c = rw (sym (c .before .before .cut-frame .ensures) ∙ c .enum-told .given .1)
+
+pub decide-spec : {M : Type 1} → statement M
+decide-spec =
+    tie.close
+    (tie.spec
+    cut-frame-requires
+    enum-known-missing
+    add-size
+    returns
+    enum-known-length
+    add-t10
+    enum-told
+    returns-2
+    returns-3
+    returns-4)

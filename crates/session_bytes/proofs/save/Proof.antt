@@ -1,0 +1,49 @@
+use native.Mathlib.Omega.{arith}
+use mathlib.Core.Path.{sym, _∙_}
+use lib.ListN.{length}
+use borrow.Author.Tests.{le-leb, eq-eqb, ne-eqb}
+use Rattle.session_bytes.proofs.Slices.{number-most, wrote, unwritten}
+use borrow.Author.Needs.{needs}
+use Rattle.session_bytes.proofs.save.Statement.{statement}
+use Rattle.session_bytes.proofs.save.Tie as tie
+
+state-number-requires : tie.Need-state-number-requires
+state-number-requires c κs = search needs
+
+mark-number-requires : tie.Need-mark-number-requires
+mark-number-requires c κs = search needs
+
+add-lay-five : tie.Need-add-lay-five
+add-lay-five c = let se = c .before .before .before .before .before .args .se in omega (arith, number-most (se .state) (se .mark) _ _ (c .before .state-number .ensures) (c .mark-number .ensures))
+
+mark-point-requires : tie.Need-mark-point-requires
+mark-point-requires c κs = search needs
+
+lay-five-requires : tie.Need-lay-five-requires
+lay-five-requires c κs = search needs
+
+same-length : tie.Need-same-length
+same-length c = search needs
+
+returns : tie.Need-returns
+returns c = let a = c .before .before .before .before .before .before .before .before .before .args in
+    let h = c .before .before .before .before .before .before .before .if1 .taken in (
+      c .before .before .lay-five .ensures .0 ∙ le-leb 40 (length (a .slice .now)) (omega arith) ∙ sym (eq-eqb (length (a .slice .now)) 40 h),
+      wrote (a .se) (a .slice .now) h _ _ _ _ (c .before .before .before .before .before .state-number .ensures) (c .before .before .before .before .mark-number .ensures) (c .before .before .before .mark-point .ensures) (c .before .before .lay-five .ensures .1),
+    )
+
+returns-2 : tie.Need-returns-2
+returns-2 c = let a = c .before .before .args in (sym (ne-eqb _ 40 (c .if1 .left)), unwritten (a .se) (a .slice .now) (c .if1 .left))
+
+pub save-spec : {M : Type 1} → statement M
+save-spec =
+    tie.close
+    (tie.spec
+    state-number-requires
+    mark-number-requires
+    add-lay-five
+    mark-point-requires
+    lay-five-requires
+    same-length
+    returns
+    returns-2)

@@ -1,0 +1,41 @@
+use Rattle.session_entries.specs.Required.{sameBytes, keyBytes}
+use Rattle.wire_message.specs.Message.{Bytes}
+use native.Mathlib.Omega.{arith}
+use mathlib.Core.Path.{ap, _∙_}
+use Rattle.wire_message.specs.Message.{entry}
+use Rattle.wire_fields.proofs.Follow.{span-lies}
+use Rattle.wire_fields.proofs.Items.{bytes-means}
+use borrow.Author.Needs.{needs}
+use Rattle.session_entries.proofs.has_key.Statement.{statement}
+use Rattle.session_entries.proofs.has_key.Tie as tie
+
+part-in-requires : tie.Need-part-in-requires
+part-in-requires c κs = search needs
+
+sub-is-key : tie.Need-sub-is-key
+sub-is-key c = let s = c .before .before .args .s .now in rw (c .part-in .ensures) (span-lies s 1 .0)
+
+part-is-key-start : tie.Need-part-is-key-start
+part-is-key-start c = let s = c .before .before .args .s .now in rw (c .part-in .ensures) (let h = span-lies s 1 in omega arith)
+
+part-is-key-end : tie.Need-part-is-key-end
+part-is-key-end c = let s = c .before .before .args .s .now in rw (c .part-in .ensures) (let h = span-lies s 1 in omega arith)
+
+is-key-requires : tie.Need-is-key-requires
+is-key-requires c κs = search needs
+
+returns : tie.Need-returns
+unfolding entry
+returns c = let a = c .before .before .before .before .args in
+    (rw (c .before .before .part-in .ensures) at (c .is-key .ensures)) ∙ ap (λ (d : Bytes). sameBytes d (keyBytes (a .k))) (bytes-means (a .s .now) 1)
+
+pub has-key-spec : {M : Type 1} → statement M
+has-key-spec =
+    tie.close
+    (tie.spec
+    part-in-requires
+    sub-is-key
+    part-is-key-start
+    part-is-key-end
+    is-key-requires
+    returns)

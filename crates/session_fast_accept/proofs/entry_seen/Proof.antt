@@ -1,0 +1,97 @@
+use mathlib.Core.Path.{refl, subst}
+use Rattle.wire_fast_entry.specs.Entry.{Formed}
+use Rattle.wire_fields.specs.Fields.{among}
+use Rattle.wire_fields.specs.Items.{lastFrom, bytesOf}
+use Rattle.wire_message.specs.Message.{entry, valueOf}
+use Rattle.wire_limits.specs.Limits.{isSet}
+use Rattle.session_fast_accept.specs.Summary.{isString, EntrySeen}
+use Rattle.session_fast_accept.proofs.KeyLaws.{by-value}
+use borrow.Author.Needs.{needs}
+use Rattle.session_fast_accept.proofs.entry_seen.Statement.{statement}
+use Rattle.session_fast_accept.proofs.entry_seen.Tie as tie
+
+plain-entry-requires : tie.Need-plain-entry-requires
+plain-entry-requires c κs = search needs
+
+enum-known-key : tie.Need-enum-known-key
+enum-known-key c = search needs
+
+other-seen-requires : tie.Need-other-seen-requires
+unfolding Formed
+other-seen-requires c κs = let p = c .before .before .before in
+    subst (Formed (p .before .before .args .s .now)) (c .before .key .given .1) (p .plain-entry .ensures) .0 .ends
+
+enum-known-key-2 : tie.Need-enum-known-key-2
+enum-known-key-2 c = search needs
+
+string-seen-requires : tie.Need-string-seen-requires
+unfolding Formed
+string-seen-requires c κs = let p = c .before .before .before in
+    subst (Formed (p .before .before .args .s .now)) (c .before .key2 .given .1) (p .plain-entry .ensures) .0 .holds .ends
+
+enum-known-key-3 : tie.Need-enum-known-key-3
+enum-known-key-3 c = search needs
+
+other-seen-requires-2 : tie.Need-other-seen-requires-2
+unfolding Formed
+other-seen-requires-2 c κs = let p = c .before .before .before in
+    subst (Formed (p .before .before .args .s .now)) (c .before .key3 .given .1) (p .plain-entry .ensures) .0 .holds .ends
+
+enum-known-key-4 : tie.Need-enum-known-key-4
+enum-known-key-4 c = search needs
+
+other-seen-requires-3 : tie.Need-other-seen-requires-3
+unfolding Formed
+other-seen-requires-3 c κs = let p = c .before .before .before in
+    subst (Formed (p .before .before .args .s .now)) (c .before .key4 .given .1) (p .plain-entry .ensures) .0 .holds .ends
+
+enum-told : tie.Need-enum-told
+enum-told c = search needs
+
+returns : tie.Need-returns
+unfolding Formed entry lastFrom among bytesOf valueOf isSet
+returns c = let p = c .before .before .before .before in
+    let k = c .before .before .key .given in
+    by-value (subst (Formed (p .before .before .args .s .now)) (k .1) (p .plain-entry .ensures) .0) isSet _ _ _ refl refl (c .other-seen .ensures)
+
+returns-2 : tie.Need-returns-2
+unfolding Formed entry lastFrom among bytesOf valueOf isString
+returns-2 c = let p = c .before .before .before .before in
+    let k = c .before .before .key2 .given in
+    by-value (subst (Formed (p .before .before .args .s .now)) (k .1) (p .plain-entry .ensures) .0 .holds) isString _ _ _ refl refl (c .string-seen .ensures)
+
+returns-3 : tie.Need-returns-3
+unfolding Formed entry lastFrom among bytesOf valueOf isSet
+returns-3 c = let p = c .before .before .before .before in
+    let k = c .before .before .key3 .given in
+    by-value (subst (Formed (p .before .before .args .s .now)) (k .1) (p .plain-entry .ensures) .0 .holds) isSet _ _ _ refl refl (c .other-seen2 .ensures)
+
+returns-4 : tie.Need-returns-4
+unfolding Formed entry lastFrom among bytesOf valueOf isSet
+returns-4 c = let p = c .before .before .before .before in
+    let k = c .before .before .key4 .given in
+    by-value (subst (Formed (p .before .before .args .s .now)) (k .1) (p .plain-entry .ensures) .0 .holds) isSet _ _ _ refl refl (c .other-seen3 .ensures)
+
+returns-5 : tie.Need-returns-5
+unfolding EntrySeen
+returns-5 c = tt
+
+pub entry-seen-spec : {M : Type 1} → statement M
+entry-seen-spec =
+    tie.close
+    (tie.spec
+    plain-entry-requires
+    enum-known-key
+    other-seen-requires
+    enum-known-key-2
+    string-seen-requires
+    enum-known-key-3
+    other-seen-requires-2
+    enum-known-key-4
+    other-seen-requires-3
+    enum-told
+    returns
+    returns-2
+    returns-3
+    returns-4
+    returns-5)

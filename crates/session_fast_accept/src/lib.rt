@@ -1,0 +1,232 @@
+// An accept in the form in which clients send it, looked at in one pass: each tag is one byte, each entry a key and one value, each
+// required entry a string. This is a short way. An accept in another form, one that is to be refused too, takes the general one.
+use base_laws::wide;
+use session_entries::same;
+use wire_fast_entry::Plain;
+use wire_fast_entry::plain_entry;
+use wire_fields::Found;
+use wire_fields::part_found;
+use wire_message::time_spec_in;
+use wire_value::Payload;
+use wire_value::number_at;
+ghost use mathlib.Core.Path.{_≡_};
+ghost use Prim.Native.Nat.{_≤_};
+ghost use lib.ListN.{length};
+ghost use Rattle.base_laws.specs.Base.{part};
+ghost use Rattle.wire_fields.specs.Items.{items};
+ghost use Rattle.wire_message.specs.Message as m;
+ghost use Rattle.wire_limits.specs.Limits.{dateFits, isSet};
+ghost use Rattle.session_fast_accept.specs.Summary.{keyNumber, withKey, allMet, isString, EntrySeen, KeySeen, Summarised};
+
+// The required keys that entries had so far.
+pub struct Keys {
+    pub command: bool,
+    pub runuser: bool,
+    pub submithost: bool,
+    pub submituser: bool,
+}
+
+// These keys past one more entry, which is in range and a string where it has one of them; nothing is told of another.
+pub enum Seen {
+    Fine(Keys),
+    Other,
+}
+
+// The number of a required key, 0 to 3; 4 for another. The length goes first: it tells nearly all other keys apart.
+fn key_number(a: &[u8]) -> u8
+    ensures { λ r. ⌜ r ≡ keyNumber (now (a .entry)) ⌝ }
+{
+    if a.len() == 7 {
+        if same(a, b"command") {
+            return 0;
+        }
+        if same(a, b"runuser") {
+            return 1;
+        }
+        return 4;
+    }
+    if a.len() == 10 {
+        if same(a, b"submithost") {
+            return 2;
+        }
+        if same(a, b"submituser") {
+            return 3;
+        }
+        return 4;
+    }
+    4
+}
+
+// The keys with that of number k met; 4 adds none.
+fn with_key(keys: Keys, k: u8) -> Keys
+    ensures { λ r. ⌜ r ≡ withKey keys k ⌝ }
+{
+    if k == 0 {
+        return Keys {
+            command: true,
+            runuser: keys.runuser,
+            submithost: keys.submithost,
+            submituser: keys.submituser,
+        };
+    }
+    if k == 1 {
+        return Keys {
+            command: keys.command,
+            runuser: true,
+            submithost: keys.submithost,
+            submituser: keys.submituser,
+        };
+    }
+    if k == 2 {
+        return Keys {
+            command: keys.command,
+            runuser: keys.runuser,
+            submithost: true,
+            submituser: keys.submituser,
+        };
+    }
+    if k == 3 {
+        return Keys {
+            command: keys.command,
+            runuser: keys.runuser,
+            submithost: keys.submithost,
+            submituser: true,
+        };
+    }
+    keys
+}
+
+// Are all four met.
+fn all_met(keys: Keys) -> bool
+    ensures { λ r. ⌜ r ≡ allMet keys ⌝ }
+{
+    if keys.command {
+        if keys.runuser {
+            if keys.submithost {
+                return keys.submituser;
+            }
+            return false;
+        }
+        return false;
+    }
+    false
+}
+
+// What an entry's key, which ends at `key`, tells where the value is a string.
+fn string_seen(keys: Keys, s: &[u8], key: usize) -> Seen
+    requires { ⌜ key ≤ length (now s) ⌝ }
+    ensures { λ r. ⌜ KeySeen isString (part (now (s .entry)) 2 key) keys r ⌝ }
+{
+    if 2 < key {
+        return Seen::Fine(with_key(keys, key_number(&s[2..key])));
+    }
+    Seen::Other
+}
+
+// What it tells where the value is of any type: an entry with a required key is left to the general way.
+fn other_seen(keys: Keys, s: &[u8], key: usize) -> Seen
+    requires { ⌜ key ≤ length (now s) ⌝ }
+    ensures { λ r. ⌜ KeySeen isSet (part (now (s .entry)) 2 key) keys r ⌝ }
+{
+    if 2 < key {
+        if key_number(&s[2..key]) == 4 {
+            return Seen::Fine(keys);
+        }
+        return Seen::Other;
+    }
+    Seen::Other
+}
+
+// What an entry tells after those that had the keys.
+fn entry_seen(keys: Keys, s: &[u8]) -> Seen
+    ensures { λ r. ⌜ EntrySeen (m.entry (items (now (s .entry)))) keys r ⌝ }
+{
+    match plain_entry(s) {
+        Plain::Number { key, value: _ } => other_seen(keys, s, key),
+        Plain::Text { key, start: _ } => string_seen(keys, s, key),
+        Plain::Texts { key, start: _ } => other_seen(keys, s, key),
+        Plain::Numbers { key, start: _ } => other_seen(keys, s, key),
+        Plain::Other => Seen::Other,
+    }
+}
+
+// Is a submit_time in range: the nanoseconds alone have one. An int32 is its number's low 32 bits.
+fn date_seen(s: &[u8]) -> bool
+    ensures { λ r. ⌜ r ≡ dateFits (m.timeSpec (items (now (s .entry)))) ⌝ }
+{
+    time_spec_in(s).nanos % 4294967296 <= 999999999
+}
+
+// What one pass over an accept in the form that clients send tells; nothing is told of another form.
+pub enum Summary {
+    Sound { expect: bool },
+    Other,
+}
+
+// Sound, with its expect_iobufs, for an accept whose values are in range and whose required entries are there; Other says nothing.
+pub fn summary_in(s: &[u8]) -> Summary
+    ensures { λ r. ⌜ Summarised (now (s .entry)) r ⌝ }
+{
+    let mut at: usize = 0;
+    let mut expect = false;
+    let mut keys = Keys {
+        command: false,
+        runuser: false,
+        submithost: false,
+        submituser: false,
+    };
+    while at < s.len() {
+        let tag = wide(s[at]);
+        if tag == 24 {
+            match number_at(s, at + 1) {
+                Payload::Number { value, next } => {
+                    expect = value != 0;
+                    at = next;
+                }
+                Payload::Fixed { next: _ } => {
+                    return Summary::Other;
+                }
+                Payload::Part { start: _, end: _ } => {
+                    return Summary::Other;
+                }
+                Payload::Refused {
+                    refusal: _,
+                    place: _,
+                } => {
+                    return Summary::Other;
+                }
+            }
+        } else {
+            match part_found(s, at + 1) {
+                Found::Part { start, end } => {
+                    if tag == 18 {
+                        match entry_seen(keys, &s[start..end]) {
+                            Seen::Fine(k) => {
+                                keys = k;
+                                at = end;
+                            }
+                            Seen::Other => {
+                                return Summary::Other;
+                            }
+                        }
+                    } else if tag == 10 {
+                        if date_seen(&s[start..end]) {
+                            at = end;
+                        } else {
+                            return Summary::Other;
+                        }
+                    } else {
+                        return Summary::Other;
+                    }
+                }
+                Found::Nothing => {
+                    return Summary::Other;
+                }
+            }
+        }
+    }
+    if all_met(keys) {
+        return Summary::Sound { expect };
+    }
+    Summary::Other
+}

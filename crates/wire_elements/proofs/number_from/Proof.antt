@@ -1,0 +1,138 @@
+-- The loop's invariant: the fields from `at` on hold the numbers that the fields from `from` on hold.
+use borrow.Author.Needs.{needs}
+use borrow.Author.Tests.{eq-eqb, ne-eqb}
+use native.Mathlib.Omega.{arith}
+use mathlib.Core.Path.{_≡_, refl, sym, _∙_}
+use Prim.Native.Nat.{_-_}
+use lib.ListN.{length}
+use Rattle.wire_fields.specs.Fields.{onField}
+use Rattle.wire_fields.specs.declared.Field.{Field}
+use Rattle.wire_elements.specs.Elements.{itemsAt, onVarint, numbersOf, told}
+use Rattle.wire_elements.proofs.Numbers.{Leaves, at-field, at-end, at-part, part-value, number-value}
+use Rattle.wire_elements.proofs.number_from.Statement.{statement}
+use Rattle.wire_elements.proofs.number_from.Tie as tie
+
+abbrev Inv-loop : tie.InvT-loop
+Inv-loop s from at₀ at = numbersOf (itemsAt s at) ≡ numbersOf (itemsAt s from)
+
+abbrev μ-loop : tie.MeasureT-loop
+μ-loop s from at₀ at = length s - at
+
+after : (c : tie.After-field-at Inv-loop μ-loop) → (x : Field) → c .field-at .result ≡ x
+    → Leaves (c .before .before .before .before .args .s .now) (c .before .before .before .before .args .from) (c .before .before .loop .at) x
+after c x e =
+    at-field _ _ _ x (c .before .loop-test .taken) (c .before .before .loop .inv) (sym (c .field-at .ensures) ∙ e)
+
+loop-holds : tie.Need-loop-holds Inv-loop μ-loop
+loop-holds c = refl
+
+field-at-requires : tie.Need-field-at-requires Inv-loop μ-loop
+field-at-requires c κs = search needs
+
+enum-known-number : tie.Need-enum-known-number Inv-loop μ-loop
+enum-known-number c = search needs
+
+returns : tie.Need-returns Inv-loop μ-loop
+unfolding onField
+returns c =
+    number-value _ _ _ _ (eq-eqb _ _ (c .if1 .taken)) ∙ after (c .before .before .before .before) _ (c .before .before .number .given .1) .1
+
+loop-less : tie.Need-loop-less Inv-loop μ-loop
+loop-less c = let h = after (c .before .before .before .before) _ (c .before .before .number .given .1) .0 in omega arith
+
+loop-again : tie.Need-loop-again Inv-loop μ-loop
+unfolding onField numbersOf
+loop-again c = rw (ne-eqb _ _ (c .if1 .left)) at (after (c .before .before .before .before) _ (c .before .before .number .given .1) .1)
+
+enum-known-next : tie.Need-enum-known-next Inv-loop μ-loop
+enum-known-next c = search needs
+
+loop-less-2 : tie.Need-loop-less-2 Inv-loop μ-loop
+loop-less-2 c = let h = after (c .before .before .before) _ (c .before .next .given .1) .0 in omega arith
+
+loop-again-2 : tie.Need-loop-again-2 Inv-loop μ-loop
+unfolding onField numbersOf
+loop-again-2 c = after (c .before .before .before) _ (c .before .next .given .1) .1
+
+enum-known-number-2 : tie.Need-enum-known-number-2 Inv-loop μ-loop
+enum-known-number-2 c = search needs
+
+packed-in-requires : tie.Need-packed-in-requires Inv-loop μ-loop
+packed-in-requires c κs = search needs
+
+enum-known-value : tie.Need-enum-known-value Inv-loop μ-loop
+enum-known-value c = search needs
+
+returns-2 : tie.Need-returns-2 Inv-loop μ-loop
+unfolding onField
+returns-2 c = let p = c .before .before .before in
+    part-value _ _ _ _ _ _ (sym (p .packed-in .ensures) ∙ c .before .value .given .1)
+    ∙ after (p .before .before .before .before) _ (p .before .before .number2 .given .1) .1
+
+enum-told : tie.Need-enum-told Inv-loop μ-loop
+enum-told c = search needs
+
+loop-less-3 : tie.Need-loop-less-3 Inv-loop μ-loop
+loop-less-3 c = let p = c .before .before in
+    let h = after (p .before .before .before .before) _ (p .before .before .number2 .given .1) .0 in
+    omega arith
+
+loop-again-3 : tie.Need-loop-again-3 Inv-loop μ-loop
+unfolding onField onVarint
+loop-again-3 c = let p = c .before .before in
+    at-part _ _ _ _ _ (sym (p .packed-in .ensures) ∙ c .enum-told .given .1)
+    ∙ after (p .before .before .before .before) _ (p .before .before .number2 .given .1) .1
+
+enum-told-2 : tie.Need-enum-told-2 Inv-loop μ-loop
+enum-told-2 c = search needs
+
+loop-less-4 : tie.Need-loop-less-4 Inv-loop μ-loop
+loop-less-4 c = let p = c .before .before in
+    let h = after (p .before .before .before .before) _ (p .before .before .number2 .given .1) .0 in
+    omega arith
+
+loop-again-4 : tie.Need-loop-again-4 Inv-loop μ-loop
+unfolding onField onVarint
+loop-again-4 c = let p = c .before .before in
+    at-part _ _ _ _ _ (sym (p .packed-in .ensures) ∙ c .enum-told2 .given .1)
+    ∙ after (p .before .before .before .before) _ (p .before .before .number2 .given .1) .1
+
+enum-told-3 : tie.Need-enum-told-3 Inv-loop μ-loop
+enum-told-3 c = search needs
+
+returns-3 : tie.Need-returns-3 Inv-loop μ-loop
+unfolding onField numbersOf told
+returns-3 c = after (c .before .before) _ (c .enum-told3 .given .1) .1
+
+returns-4 : tie.Need-returns-4 Inv-loop μ-loop
+unfolding told
+returns-4 c = at-end _ _ (c .loop-test .left) ∙ c .before .loop .inv
+
+pub number-from-spec : {M : Type 1} → statement M
+number-from-spec =
+    tie.close
+    (tie.spec
+    Inv-loop
+    μ-loop
+    loop-holds
+    field-at-requires
+    enum-known-number
+    returns
+    loop-less
+    loop-again
+    enum-known-next
+    loop-less-2
+    loop-again-2
+    enum-known-number-2
+    packed-in-requires
+    enum-known-value
+    returns-2
+    enum-told
+    loop-less-3
+    loop-again-3
+    enum-told-2
+    loop-less-4
+    loop-again-4
+    enum-told-3
+    returns-3
+    returns-4)

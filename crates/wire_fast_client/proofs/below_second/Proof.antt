@@ -1,0 +1,25 @@
+use Rattle.wire_fast_client.proofs.Plains.{only-nanos}
+use Rattle.wire_fast_client.specs.Plain.{TimeSaid}
+use borrow.Author.Needs.{needs}
+use Rattle.wire_fast_client.proofs.below_second.Statement.{statement}
+use Rattle.wire_fast_client.proofs.below_second.Tie as tie
+
+nanos-at-requires : tie.Need-nanos-at-requires
+nanos-at-requires c κs = search needs
+
+enum-known-value : tie.Need-enum-known-value
+enum-known-value c = search needs
+
+enum-told : tie.Need-enum-told
+enum-told c = search needs
+
+returns : tie.Need-returns
+returns c = only-nanos _ _ (c .before .before .before .nanos-at .ensures) _ (c .before .value .given .1)
+
+returns-2 : tie.Need-returns-2
+unfolding TimeSaid
+returns-2 c = tt
+
+pub below-second-spec : {M : Type 1} → statement M
+below-second-spec =
+    tie.close (tie.spec nanos-at-requires enum-known-value enum-told returns returns-2)

@@ -1,0 +1,53 @@
+use native.Mathlib.Omega.{arith}
+use mathlib.Core.Path.{subst, sym}
+use Rattle.wire_fast_client.specs.Plain.{IoSaid}
+use Rattle.wire_fast_client.proofs.Plains.{delay-lies, delay-data}
+use borrow.Author.Needs.{needs}
+use Rattle.wire_fast_client.proofs.from_delay.Statement.{statement}
+use Rattle.wire_fast_client.proofs.from_delay.Tie as tie
+
+sub-plain-time : tie.Need-sub-plain-time
+sub-plain-time c = delay-lies _ (c .before .pre .0) _ _ (c .before .pre .1) .0
+
+part-plain-time-start : tie.Need-part-plain-time-start
+part-plain-time-start c = let z = delay-lies _ (c .before .pre .0) _ _ (c .before .pre .1) in omega arith
+
+part-plain-time-end : tie.Need-part-plain-time-end
+part-plain-time-end c = let z = delay-lies _ (c .before .pre .0) _ _ (c .before .pre .1) in omega arith
+
+plain-time-requires : tie.Need-plain-time-requires
+plain-time-requires c κs = search needs
+
+enum-known-seconds : tie.Need-enum-known-seconds
+enum-known-seconds c = search needs
+
+data-at-requires : tie.Need-data-at-requires
+data-at-requires c κs = search needs
+
+with-data-requires : tie.Need-with-data-requires
+with-data-requires c κs = search needs
+
+enum-told : tie.Need-enum-told
+enum-told c = search needs
+
+returns : tie.Need-returns
+returns c = subst (IoSaid (c .before .before .before .before .before .before .before .before .args .s .now)) (sym (c .with-data .ensures)) (delay-data _ (c .before .before .before .before .before .before .before .before .pre .0) _ _ (c .before .before .before .before .before .before .before .before .pre .1) _ (c .before .before .before .before .before .plain-time .ensures) _ _ (c .before .before .before .seconds .given .1) _ (c .before .data-at .ensures))
+
+returns-2 : tie.Need-returns-2
+unfolding IoSaid
+returns-2 c = tt
+
+pub from-delay-spec : {M : Type 1} → statement M
+from-delay-spec =
+    tie.close
+    (tie.spec
+    sub-plain-time
+    part-plain-time-start
+    part-plain-time-end
+    plain-time-requires
+    enum-known-seconds
+    data-at-requires
+    with-data-requires
+    enum-told
+    returns
+    returns-2)

@@ -1,0 +1,52 @@
+use native.Mathlib.Omega.{arith}
+use Rattle.wire_fast_client.specs.Plain.{ClientSaid}
+use Rattle.wire_fast_client.proofs.Plains.{member-lies, member-within, member-io}
+use borrow.Author.Needs.{needs}
+use Rattle.wire_fast_client.proofs.from_member.Statement.{statement}
+use Rattle.wire_fast_client.proofs.from_member.Tie as tie
+
+sub-plain-io : tie.Need-sub-plain-io
+sub-plain-io c = member-lies _ _ (c .before .pre .0 .0) (c .before .pre .0 .1) _ _ (c .before .pre .1 .0) .0
+
+part-plain-io-start : tie.Need-part-plain-io-start
+part-plain-io-start c = let z = member-lies _ _ (c .before .pre .0 .0) (c .before .pre .0 .1) _ _ (c .before .pre .1 .0) in omega arith
+
+part-plain-io-end : tie.Need-part-plain-io-end
+part-plain-io-end c = search needs
+
+plain-io-requires : tie.Need-plain-io-requires
+plain-io-requires c κs = search needs
+
+enum-known-seconds : tie.Need-enum-known-seconds
+enum-known-seconds c = search needs
+
+add-t16 : tie.Need-add-t16
+add-t16 c = let w = member-within _ _ (c .before .before .before .before .before .before .pre .0 .0) (c .before .before .before .before .before .before .pre .0 .1) _ _ (c .before .before .before .before .before .before .pre .1 .0) _ (c .before .before .before .plain-io .ensures) _ _ _ _ (c .before .seconds .given .1) in omega (arith, w .0, c .before .before .before .before .before .before .good .0)
+
+add-t17 : tie.Need-add-t17
+add-t17 c = let w = member-within _ _ (c .before .before .before .before .before .before .pre .0 .0) (c .before .before .before .before .before .before .pre .0 .1) _ _ (c .before .before .before .before .before .before .pre .1 .0) _ (c .before .before .before .plain-io .ensures) _ _ _ _ (c .before .seconds .given .1) in omega (arith, w .1, c .before .before .before .before .before .before .good .0)
+
+enum-told : tie.Need-enum-told
+enum-told c = search needs
+
+returns : tie.Need-returns
+returns c = member-io _ _ (c .before .before .before .before .before .before .pre .0 .0) (c .before .before .before .before .before .before .pre .0 .1) _ _ (c .before .before .before .before .before .before .pre .1 .0) (c .before .before .before .before .before .before .pre .1 .1) _ (c .before .before .before .plain-io .ensures) _ _ _ _ (c .before .seconds .given .1)
+
+returns-2 : tie.Need-returns-2
+unfolding ClientSaid
+returns-2 c = tt
+
+pub from-member-spec : {M : Type 1} → statement M
+from-member-spec =
+    tie.close
+    (tie.spec
+    sub-plain-io
+    part-plain-io-start
+    part-plain-io-end
+    plain-io-requires
+    enum-known-seconds
+    add-t16
+    add-t17
+    enum-told
+    returns
+    returns-2)

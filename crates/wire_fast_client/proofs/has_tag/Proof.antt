@@ -1,0 +1,22 @@
+use borrow.Author.Tests.{lt-ltb, le-ltb}
+use Rattle.wire_fast_client.specs.Plain.{byteIs}
+use borrow.Author.Needs.{needs}
+use Rattle.wire_fast_client.proofs.has_tag.Statement.{statement}
+use Rattle.wire_fast_client.proofs.has_tag.Tie as tie
+
+shared-slice-read-wide : tie.Need-shared-slice-read-wide
+shared-slice-read-wide c = search needs
+
+wide-requires : tie.Need-wide-requires
+wide-requires c κs = search needs
+
+returns : tie.Need-returns
+unfolding byteIs
+returns c = rw (c .wide .ensures, lt-ltb _ _ (c .before .before .if1 .taken))
+
+returns-2 : tie.Need-returns-2
+unfolding byteIs
+returns-2 c = rw (le-ltb _ _ (c .if1 .left))
+
+pub has-tag-spec : {M : Type 1} → statement M
+has-tag-spec = tie.close (tie.spec shared-slice-read-wide wide-requires returns returns-2)

@@ -1,0 +1,16 @@
+use Rattle.wire_fast_client.proofs.Plains.{empty-time}
+use borrow.Author.Needs.{needs}
+use Rattle.wire_fast_client.proofs.plain_time.Statement.{statement}
+use Rattle.wire_fast_client.proofs.plain_time.Tie as tie
+
+returns : tie.Need-returns
+returns c = empty-time _ (c .if1 .taken)
+
+from-seconds-requires : tie.Need-from-seconds-requires
+from-seconds-requires c κs = search needs
+
+returns-2 : tie.Need-returns-2
+returns-2 c = search needs
+
+pub plain-time-spec : {M : Type 1} → statement M
+plain-time-spec = tie.close (tie.spec returns from-seconds-requires returns-2)

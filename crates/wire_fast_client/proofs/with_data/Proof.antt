@@ -1,0 +1,31 @@
+use mathlib.Core.Path.{sym, ap}
+use Rattle.wire_fast_client.specs.declared.Tail.{Tail}
+use Rattle.wire_fast_client.specs.Plain.{withData}
+use borrow.Author.Needs.{needs}
+use Rattle.wire_fast_client.proofs.with_data.Statement.{statement}
+use Rattle.wire_fast_client.proofs.with_data.Tie as tie
+
+enum-known-tail : tie.Need-enum-known-tail
+enum-known-tail c = search needs
+
+enum-told : tie.Need-enum-told
+enum-told c = search needs
+
+enum-told-2 : tie.Need-enum-told-2
+enum-told-2 c = search needs
+
+returns : tie.Need-returns
+unfolding withData
+returns c = let a = c .before .before .before .args in sym (ap (λ (t : Tail). withData (a .seconds) (a .nanos) t) (c .before .tail .given .1))
+
+returns-2 : tie.Need-returns-2
+unfolding withData
+returns-2 c = let a = c .before .before .args in sym (ap (λ (t : Tail). withData (a .seconds) (a .nanos) t) (c .enum-told .given .1))
+
+returns-3 : tie.Need-returns-3
+unfolding withData
+returns-3 c = let a = c .before .before .args in sym (ap (λ (t : Tail). withData (a .seconds) (a .nanos) t) (c .enum-told2 .given .1))
+
+pub with-data-spec : {M : Type 1} → statement M
+with-data-spec =
+    tie.close (tie.spec enum-known-tail enum-told enum-told-2 returns returns-2 returns-3)

@@ -1,0 +1,53 @@
+use native.Mathlib.Omega.{arith}
+use mathlib.Core.Path.{sym}
+use borrow.Author.Tests.{eq-eqb, ne-eqb, lt-ltb, le-ltb}
+use Rattle.wire_fast_entry.specs.Entry.{keyEnd}
+use borrow.Author.Needs.{needs}
+use Rattle.wire_fast_entry.proofs.Entries.{no-value}
+use Rattle.wire_fast_entry.proofs.key_end.Statement.{statement}
+use Rattle.wire_fast_entry.proofs.key_end.Tie as tie
+
+returns : tie.Need-returns
+returns c = no-value _ (omega arith)
+
+shared-slice-read-if2 : tie.Need-shared-slice-read-if2
+shared-slice-read-if2 c = search needs
+
+returns-2 : tie.Need-returns-2
+unfolding keyEnd
+returns-2 c = rw (ne-eqb _ 10 (c .if2 .taken))
+
+shared-slice-read-wide : tie.Need-shared-slice-read-wide
+shared-slice-read-wide c = search needs
+
+wide-requires : tie.Need-wide-requires
+wide-requires c κs = search needs
+
+returns-3 : tie.Need-returns-3
+unfolding keyEnd
+returns-3 c = let w = c .before in rw (eq-eqb _ 10 (w .before .before .if2 .left), sym (w .wide .ensures), le-ltb _ 128 (c .if3 .taken))
+
+add-end : tie.Need-add-end
+add-end c = search needs
+
+returns-4 : tie.Need-returns-4
+returns-4 c = no-value _ (omega arith)
+
+returns-5 : tie.Need-returns-5
+unfolding keyEnd
+returns-5 c = let w = c .before .before in
+    rw (eq-eqb _ 10 (w .before .before .if2 .left), sym (w .wide .ensures), lt-ltb _ 128 (c .before .if3 .left), lt-ltb _ _ (c .if4 .left))
+
+pub key-end-spec : {M : Type 1} → statement M
+key-end-spec =
+    tie.close
+    (tie.spec
+    returns
+    shared-slice-read-if2
+    returns-2
+    shared-slice-read-wide
+    wide-requires
+    returns-3
+    add-end
+    returns-4
+    returns-5)

@@ -1,0 +1,144 @@
+use native.Mathlib.Omega.{arith}
+use mathlib.Core.Path.{sym, _∙_}
+use Rattle.wire_fast_entry.specs.Entry.{Formed}
+use Rattle.wire_fields.proofs.Lengths.{found-part}
+use Rattle.wire_fast_entry.proofs.Entries.{key-there, numbered, text, texts, numbers}
+use borrow.Author.Needs.{needs}
+use Rattle.wire_fast_entry.proofs.plain_entry.Statement.{statement}
+use Rattle.wire_fast_entry.proofs.plain_entry.Tie as tie
+
+key-end-requires : tie.Need-key-end-requires
+key-end-requires c κs = search needs
+
+returns : tie.Need-returns
+unfolding Formed
+returns c = tt
+
+shared-slice-read-wide : tie.Need-shared-slice-read-wide
+shared-slice-read-wide c = let k = c .before in key-there _ _ (k .before .key-end .ensures) (k .if1 .left) .goes-on
+
+wide-requires : tie.Need-wide-requires
+wide-requires c κs = search needs
+
+add-number-at : tie.Need-add-number-at
+add-number-at c = let k = c .before .before .before in omega (arith, key-there _ _ (k .before .key-end .ensures) (k .if1 .left) .goes-on)
+
+number-at-requires : tie.Need-number-at-requires
+number-at-requires c κs = search needs
+
+enum-known-value : tie.Need-enum-known-value
+enum-known-value c = search needs
+
+returns-2 : tie.Need-returns-2
+returns-2 c = let v = c .before .before in
+    let n = v .before .before in
+    let w = n .before .before in
+    let k = w .before .before in
+    numbered (k .before .before .before .args .s .now) (k .before .key-end .result) (key-there _ _ (k .before .key-end .ensures) (k .if1 .left))
+    (sym (w .wide .ensures) ∙ n .before .if2 .taken) (v .value .given .0 .0) (v .value .given .0 .1 .0) (sym (n .number-at .ensures) ∙ v .value .given .1) (c .if3 .taken)
+
+returns-3 : tie.Need-returns-3
+unfolding Formed
+returns-3 c = tt
+
+enum-told : tie.Need-enum-told
+enum-told c = search needs
+
+returns-4 : tie.Need-returns-4
+unfolding Formed
+returns-4 c = tt
+
+enum-told-2 : tie.Need-enum-told-2
+enum-told-2 c = search needs
+
+returns-5 : tie.Need-returns-5
+unfolding Formed
+returns-5 c = tt
+
+enum-told-3 : tie.Need-enum-told-3
+enum-told-3 c = search needs
+
+returns-6 : tie.Need-returns-6
+unfolding Formed
+returns-6 c = tt
+
+add-part-found : tie.Need-add-part-found
+add-part-found c = let k = c .before .before .before in omega (arith, key-there _ _ (k .before .key-end .ensures) (k .if1 .left) .goes-on)
+
+part-found-requires : tie.Need-part-found-requires
+part-found-requires c κs = search needs
+
+enum-known-start : tie.Need-enum-known-start
+enum-known-start c = search needs
+
+returns-7 : tie.Need-returns-7
+returns-7 c = let e = c .before in
+    let v = e .before .before in
+    let p = v .before .before in
+    let w = p .before .before in
+    let k = w .before .before in
+    text (k .before .before .before .args .s .now) (k .before .key-end .result) (key-there _ _ (k .before .key-end .ensures) (k .if1 .left))
+    (v .start .given .0 .0) (v .start .given .0 .1 .0) (found-part _ _ _ (p .part-found .ensures) _ _ (v .start .given .1)) (e .if4 .taken) (sym (w .wide .ensures) ∙ c .if5 .taken)
+
+returns-8 : tie.Need-returns-8
+returns-8 c = let e = c .before .before in
+    let v = e .before .before in
+    let p = v .before .before in
+    let w = p .before .before in
+    let k = w .before .before in
+    texts (k .before .before .before .args .s .now) (k .before .key-end .result) (key-there _ _ (k .before .key-end .ensures) (k .if1 .left))
+    (v .start .given .0 .0) (v .start .given .0 .1 .0) (found-part _ _ _ (p .part-found .ensures) _ _ (v .start .given .1)) (e .if4 .taken) (sym (w .wide .ensures) ∙ c .if6 .taken)
+
+returns-9 : tie.Need-returns-9
+returns-9 c = let e = c .before .before .before in
+    let v = e .before .before in
+    let p = v .before .before in
+    let w = p .before .before in
+    let k = w .before .before in
+    numbers (k .before .before .before .args .s .now) (k .before .key-end .result) (key-there _ _ (k .before .key-end .ensures) (k .if1 .left))
+    (v .start .given .0 .0) (v .start .given .0 .1 .0) (found-part _ _ _ (p .part-found .ensures) _ _ (v .start .given .1)) (e .if4 .taken) (sym (w .wide .ensures) ∙ c .if7 .taken)
+
+enum-told-4 : tie.Need-enum-told-4
+enum-told-4 c = search needs
+
+returns-10 : tie.Need-returns-10
+unfolding Formed
+returns-10 c = tt
+
+returns-11 : tie.Need-returns-11
+unfolding Formed
+returns-11 c = tt
+
+returns-12 : tie.Need-returns-12
+unfolding Formed
+returns-12 c = tt
+
+pub plain-entry-spec : {M : Type 1} → statement M
+plain-entry-spec =
+    tie.close
+    (tie.spec
+    key-end-requires
+    returns
+    shared-slice-read-wide
+    wide-requires
+    add-number-at
+    number-at-requires
+    enum-known-value
+    returns-2
+    returns-3
+    enum-told
+    returns-4
+    enum-told-2
+    returns-5
+    enum-told-3
+    returns-6
+    add-part-found
+    part-found-requires
+    enum-known-start
+    returns-7
+    returns-8
+    returns-9
+    enum-told-4
+    returns-10
+    returns-11
+    returns-12)

@@ -1,0 +1,77 @@
+use Prim.Native.Nat.{_≤_, _-_}
+use native.Mathlib.Omega.{arith}
+use mathlib.Core.Path.{_≡_, refl, sym, _∙_}
+use lib.ListN.{length}
+use borrow.Author.Needs.{needs}
+use Rattle.wire_schema.specs.Schema.{StringList}
+use Rattle.wire_check_field.specs.Check.{checkAt, checkOf}
+use Rattle.wire_fields.proofs.Lengths.{found-part}
+use Rattle.wire_check_field.proofs.Checks.{at-end}
+use Rattle.wire_fast_entry.proofs.Entries.{Passed, passed, unsaid}
+use Rattle.wire_fast_entry.proofs.plain_strings.Statement.{statement}
+use Rattle.wire_fast_entry.proofs.plain_strings.Tie as tie
+
+abbrev Inv-loop : tie.InvT-loop
+Inv-loop s at₀ at = (at ≤ length s) × (checkAt StringList s at ≡ checkOf StringList s)
+
+abbrev μ-loop : tie.MeasureT-loop
+μ-loop s at₀ at = length s - at
+
+loop-holds : tie.Need-loop-holds Inv-loop μ-loop
+loop-holds c = (omega arith, refl)
+
+shared-slice-read-if1 : tie.Need-shared-slice-read-if1 Inv-loop μ-loop
+shared-slice-read-if1 c = search needs
+
+returns : tie.Need-returns Inv-loop μ-loop
+returns c = unsaid
+
+add-part-found : tie.Need-add-part-found Inv-loop μ-loop
+add-part-found c = search needs
+
+part-found-requires : tie.Need-part-found-requires Inv-loop μ-loop
+part-found-requires c κs = search needs
+
+enum-known-end : tie.Need-enum-known-end Inv-loop μ-loop
+enum-known-end c = search needs
+
+-- past a string: how far it reaches, and that the check goes on there
+past : (c : tie.After-known-told Inv-loop μ-loop)
+    → Passed (c .before .before .before .before .before .before .before .before .before .args .s .now) (c .before .before .before .before .before .before .before .loop .at) (c .before .end .given .0 .1 .0)
+past c = let v = c .before in
+    let p = v .before .before in
+    let l = p .before .before .before in
+    passed (l .before .before .before .args .s .now) (l .before .loop .at) (v .end .given .0 .0) (v .end .given .0 .1 .0) (l .loop-test .taken) (p .before .if1 .left) (found-part _ _ _ (p .part-found .ensures) _ _ (v .end .given .1))
+
+loop-less : tie.Need-loop-less Inv-loop μ-loop
+loop-less c = let h = past c in omega arith
+
+loop-again : tie.Need-loop-again Inv-loop μ-loop
+loop-again c = let h = past c in (h .1, sym (h .2) ∙ c .before .before .before .before .before .before .before .loop .inv .1)
+
+enum-told : tie.Need-enum-told Inv-loop μ-loop
+enum-told c = search needs
+
+returns-2 : tie.Need-returns-2 Inv-loop μ-loop
+returns-2 c = unsaid
+
+returns-3 : tie.Need-returns-3 Inv-loop μ-loop
+returns-3 c = let a = c .before .before .before .args in λ _. sym (c .before .loop .inv .1) ∙ at-end StringList (a .s .now) (c .before .loop .at) (c .loop-test .left)
+
+pub plain-strings-spec : {M : Type 1} → statement M
+plain-strings-spec =
+    tie.close
+    (tie.spec
+    Inv-loop
+    μ-loop
+    loop-holds
+    shared-slice-read-if1
+    returns
+    add-part-found
+    part-found-requires
+    enum-known-end
+    loop-less
+    loop-again
+    enum-told
+    returns-2
+    returns-3)

@@ -1,0 +1,82 @@
+use mathlib.Core.Path.{subst}
+use Rattle.wire_fast_entry.specs.Entry.{Formed}
+use Rattle.wire_fast_entry.proofs.Entries.{unsaid}
+use borrow.Author.Needs.{needs}
+use Rattle.wire_fast_entry.proofs.sound_entry.Statement.{statement}
+use Rattle.wire_fast_entry.proofs.sound_entry.Tie as tie
+
+plain-entry-requires : tie.Need-plain-entry-requires
+plain-entry-requires c κs = search needs
+
+enum-told : tie.Need-enum-told
+enum-told c = search needs
+
+enum-told-2 : tie.Need-enum-told-2
+enum-told-2 c = search needs
+
+enum-known-start : tie.Need-enum-known-start
+enum-known-start c = search needs
+
+sub-plain-strings : tie.Need-sub-plain-strings
+unfolding Formed
+sub-plain-strings c = let p = c .before .before .before in
+    subst (Formed (p .before .before .args .s .now)) (c .before .start .given .1) (p .plain-entry .ensures) .0 .within
+
+part-plain-strings-start : tie.Need-part-plain-strings-start
+unfolding Formed
+part-plain-strings-start c = let p = c .before .before .before in
+    subst (Formed (p .before .before .args .s .now)) (c .before .start .given .1) (p .plain-entry .ensures) .0 .within
+
+part-plain-strings-end : tie.Need-part-plain-strings-end
+part-plain-strings-end c = search needs
+
+plain-strings-requires : tie.Need-plain-strings-requires
+plain-strings-requires c κs = search needs
+
+enum-told-3 : tie.Need-enum-told-3
+enum-told-3 c = search needs
+
+enum-told-4 : tie.Need-enum-told-4
+enum-told-4 c = search needs
+
+returns : tie.Need-returns
+unfolding Formed
+returns c = let p = c .before .before in
+    λ _. subst (Formed (p .before .before .args .s .now)) (c .enum-told .given .1) (p .plain-entry .ensures) .1
+
+returns-2 : tie.Need-returns-2
+unfolding Formed
+returns-2 c = let p = c .before .before in
+    λ _. subst (Formed (p .before .before .args .s .now)) (c .enum-told2 .given .1) (p .plain-entry .ensures) .1
+
+returns-3 : tie.Need-returns-3
+unfolding Formed
+returns-3 c = let v = c .before .before .before in
+    let p = v .before .before in
+    λ fine. subst (Formed (p .before .before .args .s .now)) (v .start .given .1) (p .plain-entry .ensures) .1 (c .plain-strings .ensures fine)
+
+returns-4 : tie.Need-returns-4
+returns-4 c = unsaid
+
+returns-5 : tie.Need-returns-5
+returns-5 c = unsaid
+
+pub sound-entry-spec : {M : Type 1} → statement M
+sound-entry-spec =
+    tie.close
+    (tie.spec
+    plain-entry-requires
+    enum-told
+    enum-told-2
+    enum-known-start
+    sub-plain-strings
+    part-plain-strings-start
+    part-plain-strings-end
+    plain-strings-requires
+    enum-told-3
+    enum-told-4
+    returns
+    returns-2
+    returns-3
+    returns-4
+    returns-5)

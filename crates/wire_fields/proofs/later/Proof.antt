@@ -1,0 +1,64 @@
+use mathlib.Core.Path.{sym, _∙_}
+use Rattle.wire_fields.specs.Fields.{later}
+use borrow.Author.Needs.{needs}
+use Rattle.wire_fields.proofs.later.Statement.{statement}
+use Rattle.wire_fields.proofs.later.Tie as tie
+
+enum-known-e : tie.Need-enum-known-e
+enum-known-e c = search needs
+
+among-requires : tie.Need-among-requires
+among-requires c κs = search needs
+
+returns : tie.Need-returns
+unfolding later
+returns c = rw (c .before .before .before .e .given .1, sym (c .before .among .ensures) ∙ c .if1 .taken)
+
+enum-told : tie.Need-enum-told
+enum-told c = search needs
+
+enum-known-e-2 : tie.Need-enum-known-e-2
+enum-known-e-2 c = search needs
+
+among-requires-2 : tie.Need-among-requires-2
+among-requires-2 c κs = search needs
+
+returns-2 : tie.Need-returns-2
+unfolding later
+returns-2 c = rw (c .before .before .before .e2 .given .1, sym (c .before .among2 .ensures) ∙ c .if2 .taken)
+
+enum-told-2 : tie.Need-enum-told-2
+enum-told-2 c = search needs
+
+returns-3 : tie.Need-returns-3
+unfolding later
+returns-3 c = rw (c .before .before .before .e .given .1, sym (c .before .among .ensures) ∙ c .if1 .left)
+
+returns-4 : tie.Need-returns-4
+unfolding later
+returns-4 c = rw (c .enum-told .given .1)
+
+returns-5 : tie.Need-returns-5
+unfolding later
+returns-5 c = rw (c .before .before .before .e2 .given .1, sym (c .before .among2 .ensures) ∙ c .if2 .left)
+
+returns-6 : tie.Need-returns-6
+unfolding later
+returns-6 c = rw (c .enum-told2 .given .1)
+
+pub later-spec : {M : Type 1} → statement M
+later-spec =
+    tie.close
+    (tie.spec
+    enum-known-e
+    among-requires
+    returns
+    enum-told
+    enum-known-e-2
+    among-requires-2
+    returns-2
+    enum-told-2
+    returns-3
+    returns-4
+    returns-5
+    returns-6)

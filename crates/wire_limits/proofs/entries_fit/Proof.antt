@@ -1,0 +1,78 @@
+use Rattle.wire_limits.specs.Limits.{entriesFit}
+use Rattle.wire_message.specs.Message.{Bytes, entry, entries}
+use Rattle.wire_elements.proofs.Elements.{all-elements, found-none, found-part, found-lies}
+use Rattle.wire_elements.specs.Elements.{elementsAt}
+use Rattle.wire_fields.specs.Items.{items}
+use lib.ListN.{length}
+use mathlib.Core.List.{map}
+use Prim.Native.Nat.{_-_}
+use borrow.Author.Needs.{needs}
+use native.Mathlib.Omega.{arith}
+use mathlib.Core.Path.{_≡_, sym, _∙_}
+use Rattle.wire_limits.proofs.entries_fit.Statement.{statement}
+use Rattle.wire_limits.proofs.entries_fit.Tie as tie
+
+abbrev Inv-loop : tie.InvT-loop
+Inv-loop s number at₀ at = entriesFit (map (λ (d : Bytes). entry (items d)) (elementsAt number s at)) ≡ entriesFit (entries number (items s))
+
+abbrev μ-loop : tie.MeasureT-loop
+μ-loop s number at₀ at = length s - at
+
+loop-holds : tie.Need-loop-holds Inv-loop μ-loop
+unfolding entries
+loop-holds c = rw (all-elements (c .before .args .number) (c .before .args .s .now))
+
+next-part-requires : tie.Need-next-part-requires Inv-loop μ-loop
+next-part-requires c κs = search needs
+
+enum-known-start : tie.Need-enum-known-start Inv-loop μ-loop
+enum-known-start c = search needs
+
+sub-entry-fits : tie.Need-sub-entry-fits Inv-loop μ-loop
+sub-entry-fits c = found-lies (c .before .before .before .before .before .before .args .number) (c .before .before .before .before .before .before .args .s .now) (c .before .before .before .before .loop .at) (sym (c .before .before .before .next-part .ensures) ∙ c .before .start .given .1) .1
+
+part-entry-fits-start : tie.Need-part-entry-fits-start Inv-loop μ-loop
+part-entry-fits-start c = let h = found-lies (c .before .before .before .before .before .before .args .number) (c .before .before .before .before .before .before .args .s .now) (c .before .before .before .before .loop .at) (sym (c .before .before .before .next-part .ensures) ∙ c .before .start .given .1) in omega arith
+
+part-entry-fits-end : tie.Need-part-entry-fits-end Inv-loop μ-loop
+part-entry-fits-end c = let h = found-lies (c .before .before .before .before .before .before .args .number) (c .before .before .before .before .before .before .args .s .now) (c .before .before .before .before .loop .at) (sym (c .before .before .before .next-part .ensures) ∙ c .before .start .given .1) in omega arith
+
+entry-fits-requires : tie.Need-entry-fits-requires Inv-loop μ-loop
+entry-fits-requires c κs = search needs
+
+loop-less : tie.Need-loop-less Inv-loop μ-loop
+loop-less c = let h = found-lies (c .before .before .before .before .before .before .before .before .before .args .number) (c .before .before .before .before .before .before .before .before .before .args .s .now) (c .before .before .before .before .before .before .before .loop .at) (sym (c .before .before .before .before .before .before .next-part .ensures) ∙ c .before .before .before .before .start .given .1) in omega arith
+
+loop-again : tie.Need-loop-again Inv-loop μ-loop
+unfolding entriesFit
+loop-again c = rw (found-part (c .before .before .before .before .before .before .before .before .before .args .number) (c .before .before .before .before .before .before .before .before .before .args .s .now) (c .before .before .before .before .before .before .before .loop .at) (sym (c .before .before .before .before .before .before .next-part .ensures) ∙ c .before .before .before .before .start .given .1), sym (c .before .entry-fits .ensures) ∙ c .if1 .taken) at (c .before .before .before .before .before .before .before .loop .inv)
+
+returns : tie.Need-returns Inv-loop μ-loop
+unfolding entriesFit
+returns c = rw (found-part (c .before .before .before .before .before .before .before .before .before .args .number) (c .before .before .before .before .before .before .before .before .before .args .s .now) (c .before .before .before .before .before .before .before .loop .at) (sym (c .before .before .before .before .before .before .next-part .ensures) ∙ c .before .before .before .before .start .given .1), sym (c .before .entry-fits .ensures) ∙ c .if1 .left) at (c .before .before .before .before .before .before .before .loop .inv)
+
+enum-told : tie.Need-enum-told Inv-loop μ-loop
+enum-told c = search needs
+
+returns-2 : tie.Need-returns-2 Inv-loop μ-loop
+unfolding entriesFit
+returns-2 c = rw (found-none (c .before .before .before .before .before .args .number) (c .before .before .before .before .before .args .s .now) (c .before .before .before .loop .at) (sym (c .before .before .next-part .ensures) ∙ c .enum-told .given .1)) at (c .before .before .before .loop .inv)
+
+pub entries-fit-spec : {M : Type 1} → statement M
+entries-fit-spec =
+    tie.close
+    (tie.spec
+    Inv-loop
+    μ-loop
+    loop-holds
+    next-part-requires
+    enum-known-start
+    sub-entry-fits
+    part-entry-fits-start
+    part-entry-fits-end
+    entry-fits-requires
+    loop-less
+    loop-again
+    returns
+    enum-told
+    returns-2)

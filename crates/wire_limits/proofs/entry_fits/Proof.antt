@@ -1,0 +1,23 @@
+use Rattle.wire_limits.specs.Limits.{entryFits}
+use Rattle.wire_message.specs.Message.{entry}
+use borrow.Author.Tests.{le-leb, lt-leb}
+use borrow.Author.Needs.{needs}
+use Rattle.wire_limits.proofs.entry_fits.Statement.{statement}
+use Rattle.wire_limits.proofs.entry_fits.Tie as tie
+
+length-in-requires : tie.Need-length-in-requires
+length-in-requires c κs = search needs
+
+value-is-set-requires : tie.Need-value-is-set-requires
+value-is-set-requires c κs = search needs
+
+returns : tie.Need-returns
+unfolding entryFits entry
+returns c = rw (← c .before .before .length-in .ensures, le-leb _ _ (c .before .if1 .taken)) (c .value-is-set .ensures)
+
+returns-2 : tie.Need-returns-2
+unfolding entryFits entry
+returns-2 c = rw (← c .before .length-in .ensures, lt-leb _ _ (c .if1 .left))
+
+pub entry-fits-spec : {M : Type 1} → statement M
+entry-fits-spec = tie.close (tie.spec length-in-requires value-is-set-requires returns returns-2)

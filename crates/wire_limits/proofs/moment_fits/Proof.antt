@@ -1,0 +1,23 @@
+use Rattle.wire_limits.proofs.Signs.{up-to}
+use Rattle.wire_limits.specs.Limits.{momentFits}
+use Rattle.wire_message.specs.Places.{timeValue}
+use Rattle.wire_message.specs.Signed.{int64}
+use borrow.Author.Tests.{le-leb, lt-leb}
+use lib.Dec.{lit≤}
+use borrow.Author.Needs.{needs}
+use Rattle.wire_limits.proofs.moment_fits.Statement.{statement}
+use Rattle.wire_limits.proofs.moment_fits.Tie as tie
+
+date-fits-requires : tie.Need-date-fits-requires
+date-fits-requires c κs = search needs
+
+returns : tie.Need-returns
+unfolding momentFits timeValue int64
+returns c = rw (up-to 4294967295 9223372036854775808 (c .before .before .before .args .t .seconds) (lit≤ tt), le-leb _ _ (c .before .if1 .taken)) (c .date-fits .ensures)
+
+returns-2 : tie.Need-returns-2
+unfolding momentFits timeValue int64
+returns-2 c = rw (up-to 4294967295 9223372036854775808 (c .before .before .args .t .seconds) (lit≤ tt), lt-leb _ _ (c .if1 .left))
+
+pub moment-fits-spec : {M : Type 1} → statement M
+moment-fits-spec = tie.close (tie.spec date-fits-requires returns returns-2)

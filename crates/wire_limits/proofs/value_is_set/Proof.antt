@@ -1,0 +1,59 @@
+use Rattle.wire_limits.specs.Limits.{isSet}
+use Rattle.wire_message.specs.Places.{valueAt}
+use borrow.Author.Needs.{needs}
+use Rattle.wire_limits.proofs.value_is_set.Statement.{statement}
+use Rattle.wire_limits.proofs.value_is_set.Tie as tie
+
+value-in-requires : tie.Need-value-in-requires
+value-in-requires c κs = search needs
+
+enum-told : tie.Need-enum-told
+enum-told c = search needs
+
+enum-told-2 : tie.Need-enum-told-2
+enum-told-2 c = search needs
+
+enum-told-3 : tie.Need-enum-told-3
+enum-told-3 c = search needs
+
+enum-told-4 : tie.Need-enum-told-4
+enum-told-4 c = search needs
+
+enum-told-5 : tie.Need-enum-told-5
+enum-told-5 c = search needs
+
+returns : tie.Need-returns
+unfolding isSet valueAt
+returns c = rw (← c .before .before .value-in .ensures, c .enum-told .given .1)
+
+returns-2 : tie.Need-returns-2
+unfolding isSet valueAt
+returns-2 c = rw (← c .before .before .value-in .ensures, c .enum-told2 .given .1)
+
+returns-3 : tie.Need-returns-3
+unfolding isSet valueAt
+returns-3 c = rw (← c .before .before .value-in .ensures, c .enum-told3 .given .1)
+
+returns-4 : tie.Need-returns-4
+unfolding isSet valueAt
+returns-4 c = rw (← c .before .before .value-in .ensures, c .enum-told4 .given .1)
+
+returns-5 : tie.Need-returns-5
+unfolding isSet valueAt
+returns-5 c = rw (← c .before .before .value-in .ensures, c .enum-told5 .given .1)
+
+pub value-is-set-spec : {M : Type 1} → statement M
+value-is-set-spec =
+    tie.close
+    (tie.spec
+    value-in-requires
+    enum-told
+    enum-told-2
+    enum-told-3
+    enum-told-4
+    enum-told-5
+    returns
+    returns-2
+    returns-3
+    returns-4
+    returns-5)

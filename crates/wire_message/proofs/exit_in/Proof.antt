@@ -1,0 +1,41 @@
+use Rattle.wire_message.specs.Message.{exit}
+use Rattle.wire_message.specs.Places.{exitValue}
+use Rattle.wire_message.proofs.Meaning.{time-means}
+use Rattle.wire_fields.proofs.Follow.{span-lies}
+use Rattle.wire_fields.proofs.Items.{number-means, bytes-means}
+use borrow.Author.Needs.{needs}
+use Rattle.wire_message.proofs.exit_in.Statement.{statement}
+use Rattle.wire_message.proofs.exit_in.Tie as tie
+
+time-in-requires : tie.Need-time-in-requires
+time-in-requires c κs = search needs
+
+number-in-requires : tie.Need-number-in-requires
+number-in-requires c κs = search needs
+
+flag-in-requires : tie.Need-flag-in-requires
+flag-in-requires c κs = search needs
+
+part-in-requires : tie.Need-part-in-requires
+part-in-requires c κs = search needs
+
+part-in-requires-2 : tie.Need-part-in-requires-2
+part-in-requires-2 c κs = search needs
+
+returns : tie.Need-returns
+unfolding exitValue exit
+returns c = let s = c .before .before .before .before .before .before .args .s .now in (
+  rw (c .before .before .before .before .time-in .ensures, time-means 1 s, c .before .before .before .number-in .ensures, number-means s 2, c .before .before .flag-in .ensures, c .before .part-in .ensures, bytes-means s 4, c .part-in2 .ensures, bytes-means s 5),
+  (rw (c .before .part-in .ensures) (span-lies s 4), rw (c .part-in2 .ensures) (span-lies s 5)),
+)
+
+pub exit-in-spec : {M : Type 1} → statement M
+exit-in-spec =
+    tie.close
+    (tie.spec
+    time-in-requires
+    number-in-requires
+    flag-in-requires
+    part-in-requires
+    part-in-requires-2
+    returns)

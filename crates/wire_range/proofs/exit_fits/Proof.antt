@@ -1,0 +1,40 @@
+use Rattle.wire_range.specs.Range.{exitFits}
+use Rattle.wire_limits.specs.Limits.{sized}
+use Rattle.wire_message.specs.Message.{exit}
+use lib.Dec.{leb·zero}
+use mathlib.Core.Path.{sym, _∙_}
+use borrow.Author.Needs.{needs}
+use Rattle.wire_range.proofs.exit_fits.Statement.{statement}
+use Rattle.wire_range.proofs.exit_fits.Tie as tie
+
+moment-in-requires : tie.Need-moment-in-requires
+moment-in-requires c κs = search needs
+
+number-fits-requires : tie.Need-number-fits-requires
+number-fits-requires c κs = search needs
+
+length-in-requires : tie.Need-length-in-requires
+length-in-requires c κs = search needs
+
+returns : tie.Need-returns
+unfolding exitFits exit sized
+returns c = rw (sym (c .before .before .before .before .moment-in .ensures) ∙ c .before .before .before .if1 .taken, sym (c .before .before .number-fits .ensures) ∙ c .before .if2 .taken, ← c .length-in .ensures, leb·zero (c .length-in .result))
+
+returns-2 : tie.Need-returns-2
+unfolding exitFits exit
+returns-2 c = rw (sym (c .before .before .before .moment-in .ensures) ∙ c .before .before .if1 .taken, sym (c .before .number-fits .ensures) ∙ c .if2 .left)
+
+returns-3 : tie.Need-returns-3
+unfolding exitFits exit
+returns-3 c = rw (sym (c .before .moment-in .ensures) ∙ c .if1 .left)
+
+pub exit-fits-spec : {M : Type 1} → statement M
+exit-fits-spec =
+    tie.close
+    (tie.spec
+    moment-in-requires
+    number-fits-requires
+    length-in-requires
+    returns
+    returns-2
+    returns-3)

@@ -1,0 +1,29 @@
+use Rattle.wire_range.specs.Range.{restartFits}
+use Rattle.wire_limits.specs.Limits.{sized}
+use Rattle.wire_message.specs.Message.{restart}
+use borrow.Author.Tests.{le-leb, lt-leb}
+use borrow.Author.Needs.{needs}
+use Rattle.wire_range.proofs.restart_fits.Statement.{statement}
+use Rattle.wire_range.proofs.restart_fits.Tie as tie
+
+length-in-requires : tie.Need-length-in-requires
+length-in-requires c κs = search needs
+
+moment-in-requires : tie.Need-moment-in-requires
+moment-in-requires c κs = search needs
+
+returns : tie.Need-returns
+unfolding restartFits restart sized
+returns c = rw (← c .before .before .before .length-in .ensures, le-leb _ _ (c .before .before .if1 .taken), le-leb _ _ (c .before .if2 .taken)) (c .moment-in .ensures)
+
+returns-2 : tie.Need-returns-2
+unfolding restartFits restart sized
+returns-2 c = rw (← c .before .before .length-in .ensures, le-leb _ _ (c .before .if1 .taken), lt-leb _ _ (c .if2 .left))
+
+returns-3 : tie.Need-returns-3
+unfolding restartFits restart sized
+returns-3 c = rw (← c .before .length-in .ensures, lt-leb _ _ (c .if1 .left))
+
+pub restart-fits-spec : {M : Type 1} → statement M
+restart-fits-spec =
+    tie.close (tie.spec length-in-requires moment-in-requires returns returns-2 returns-3)

@@ -1,0 +1,70 @@
+use borrow.Author.Tests.{eq-eqb, ne-eqb}
+use Rattle.wire_range.specs.Range.{serverFits}
+use native.Mathlib.Omega.{arith}
+use mathlib.Core.Path.{sym, subst, _∙_}
+use Rattle.wire_fields.proofs.Items.{last-means}
+use Rattle.wire_fields.proofs.Follow.{LastLies, last-in-lies}
+use borrow.Author.Needs.{needs}
+use Rattle.wire_range.proofs.server_fits.Statement.{statement}
+use Rattle.wire_range.proofs.server_fits.Tie as tie
+
+last-in-requires : tie.Need-last-in-requires
+last-in-requires c κs = search needs
+
+enum-told : tie.Need-enum-told
+enum-told c = search needs
+
+enum-told-2 : tie.Need-enum-told-2
+enum-told-2 c = search needs
+
+enum-known-number : tie.Need-enum-known-number
+enum-known-number c = search needs
+
+sub-time-spec-in : tie.Need-sub-time-spec-in
+sub-time-spec-in c = subst (LastLies (c .before .before .before .before .before .before .args .s .now)) (sym (c .before .before .before .before .last-in .ensures) ∙ c .before .before .number .given .1) (last-in-lies (c .before .before .before .before .before .before .args .s .now) 1 5) .0
+
+part-time-spec-in-start : tie.Need-part-time-spec-in-start
+part-time-spec-in-start c = let h = subst (LastLies (c .before .before .before .before .before .before .args .s .now)) (sym (c .before .before .before .before .last-in .ensures) ∙ c .before .before .number .given .1) (last-in-lies (c .before .before .before .before .before .before .args .s .now) 1 5) in omega arith
+
+part-time-spec-in-end : tie.Need-part-time-spec-in-end
+part-time-spec-in-end c = let h = subst (LastLies (c .before .before .before .before .before .before .args .s .now)) (sym (c .before .before .before .before .last-in .ensures) ∙ c .before .before .number .given .1) (last-in-lies (c .before .before .before .before .before .before .args .s .now) 1 5) in omega arith
+
+time-spec-in-requires : tie.Need-time-spec-in-requires
+time-spec-in-requires c κs = search needs
+
+moment-fits-requires : tie.Need-moment-fits-requires
+moment-fits-requires c κs = search needs
+
+returns : tie.Need-returns
+unfolding serverFits
+returns c = rw (← last-means (c .before .before .before .before .before .before .before .before .before .args .s .now) 1 5, sym (c .before .before .before .before .before .before .before .last-in .ensures) ∙ c .before .before .before .before .before .number .given .1, eq-eqb _ _ (c .before .before .before .if1 .taken), ← c .before .time-spec-in .ensures) (c .moment-fits .ensures)
+
+returns-2 : tie.Need-returns-2
+unfolding serverFits
+returns-2 c = rw (← last-means (c .before .before .before .before .args .s .now) 1 5, sym (c .before .before .last-in .ensures) ∙ c .enum-told .given .1)
+
+returns-3 : tie.Need-returns-3
+unfolding serverFits
+returns-3 c = rw (← last-means (c .before .before .before .before .args .s .now) 1 5, sym (c .before .before .last-in .ensures) ∙ c .enum-told2 .given .1)
+
+returns-4 : tie.Need-returns-4
+unfolding serverFits
+returns-4 c = rw (← last-means (c .before .before .before .before .before .before .args .s .now) 1 5, sym (c .before .before .before .before .last-in .ensures) ∙ c .before .before .number .given .1, ne-eqb _ _ (c .if1 .left))
+
+pub server-fits-spec : {M : Type 1} → statement M
+server-fits-spec =
+    tie.close
+    (tie.spec
+    last-in-requires
+    enum-told
+    enum-told-2
+    enum-known-number
+    sub-time-spec-in
+    part-time-spec-in-start
+    part-time-spec-in-end
+    time-spec-in-requires
+    moment-fits-requires
+    returns
+    returns-2
+    returns-3
+    returns-4)

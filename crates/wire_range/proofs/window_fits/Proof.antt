@@ -1,0 +1,38 @@
+use Rattle.wire_range.specs.Range.{windowFits}
+use Rattle.wire_message.specs.Message.{windowSize}
+use mathlib.Core.Path.{sym, _∙_}
+use borrow.Author.Needs.{needs}
+use Rattle.wire_range.proofs.window_fits.Statement.{statement}
+use Rattle.wire_range.proofs.window_fits.Tie as tie
+
+moment-in-requires : tie.Need-moment-in-requires
+moment-in-requires c κs = search needs
+
+number-fits-requires : tie.Need-number-fits-requires
+number-fits-requires c κs = search needs
+
+number-fits-requires-2 : tie.Need-number-fits-requires-2
+number-fits-requires-2 c κs = search needs
+
+returns : tie.Need-returns
+unfolding windowFits windowSize
+returns c = rw (sym (c .before .before .before .before .moment-in .ensures) ∙ c .before .before .before .if1 .taken, sym (c .before .before .number-fits .ensures) ∙ c .before .if2 .taken) (c .number-fits2 .ensures)
+
+returns-2 : tie.Need-returns-2
+unfolding windowFits windowSize
+returns-2 c = rw (sym (c .before .before .before .moment-in .ensures) ∙ c .before .before .if1 .taken, sym (c .before .number-fits .ensures) ∙ c .if2 .left)
+
+returns-3 : tie.Need-returns-3
+unfolding windowFits windowSize
+returns-3 c = rw (sym (c .before .moment-in .ensures) ∙ c .if1 .left)
+
+pub window-fits-spec : {M : Type 1} → statement M
+window-fits-spec =
+    tie.close
+    (tie.spec
+    moment-in-requires
+    number-fits-requires
+    number-fits-requires-2
+    returns
+    returns-2
+    returns-3)

@@ -1,0 +1,46 @@
+use mathlib.Core.Path.{sym, _∙_}
+use Rattle.wire_tag.specs.Tag.{tagAt, tagOf}
+use borrow.Author.Needs.{needs}
+use Rattle.wire_tag.proofs.tag_slow.Statement.{statement}
+use Rattle.wire_tag.proofs.tag_slow.Tie as tie
+
+varint-at-requires : tie.Need-varint-at-requires
+varint-at-requires c κs = search needs
+
+enum-known-value : tie.Need-enum-known-value
+enum-known-value c = search needs
+
+tag-of-requires : tie.Need-tag-of-requires
+tag-of-requires c κs = search needs
+
+enum-told : tie.Need-enum-told
+enum-told c = search needs
+
+enum-told-2 : tie.Need-enum-told-2
+enum-told-2 c = search needs
+
+returns : tie.Need-returns
+unfolding tagAt
+returns c = let v = c .before .before in
+    rw (sym (v .before .before .varint-at .ensures) ∙ v .value .given .1) (c .tag-of .ensures)
+
+returns-2 : tie.Need-returns-2
+unfolding tagAt tagOf
+returns-2 c = rw (sym (c .before .before .varint-at .ensures) ∙ c .enum-told .given .1)
+
+returns-3 : tie.Need-returns-3
+unfolding tagAt tagOf
+returns-3 c = rw (sym (c .before .before .varint-at .ensures) ∙ c .enum-told2 .given .1)
+
+pub tag-slow-spec : {M : Type 1} → statement M
+tag-slow-spec =
+    tie.close
+    (tie.spec
+    varint-at-requires
+    enum-known-value
+    tag-of-requires
+    enum-told
+    enum-told-2
+    returns
+    returns-2
+    returns-3)

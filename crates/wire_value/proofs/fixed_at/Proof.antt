@@ -1,0 +1,31 @@
+use lib.ListN.{length}
+use Prim.Native.Nat.{_-_}
+use borrow.Author.Tests.{le-leb, lt-leb}
+use native.Mathlib.Omega.{arith}
+use Rattle.wire_value.specs.Field.{fixedAt}
+use borrow.Author.Needs.{needs}
+use Rattle.wire_value.proofs.fixed_at.Statement.{statement}
+use Rattle.wire_value.proofs.fixed_at.Tie as tie
+
+returns : tie.Need-returns
+unfolding fixedAt
+returns c =
+    let a = c .before .args in
+    simp (lt-leb (a .width) (length (a .s .now) - a .from) (omega arith))
+
+sub-if2 : tie.Need-sub-if2
+sub-if2 c = search needs
+
+add-t9 : tie.Need-add-t9
+add-t9 c = search needs
+
+returns-2 : tie.Need-returns-2
+unfolding fixedAt
+returns-2 c = simp (le-leb _ _ (c .if2 .taken))
+
+returns-3 : tie.Need-returns-3
+unfolding fixedAt
+returns-3 c = simp (lt-leb _ _ (c .if2 .left))
+
+pub fixed-at-spec : {M : Type 1} → statement M
+fixed-at-spec = tie.close (tie.spec returns sub-if2 add-t9 returns-2 returns-3)

@@ -1,0 +1,63 @@
+use mathlib.Core.Path.{sym, subst, _∙_}
+use borrow.Author.Tests.{le-leb, lt-leb}
+use Rattle.wire_value.specs.Field.{partOf}
+use Rattle.wire_varint.proofs.Varints.{Within, within}
+use borrow.Author.Needs.{needs}
+use Rattle.wire_value.proofs.part_slow.Statement.{statement}
+use Rattle.wire_value.proofs.part_slow.Tie as tie
+
+varint-at-requires : tie.Need-varint-at-requires
+varint-at-requires c κs = search needs
+
+enum-known-value : tie.Need-enum-known-value
+enum-known-value c = search needs
+
+sub-left : tie.Need-sub-left
+sub-left c = let v = c .before in
+    let k = v .before .before .before in
+    let a = k .before .args in
+    let h = subst (Within (a .s .now) (a .at) 9) (sym (v .before .before .varint-at .ensures) ∙ v .value .given .1)
+    (within (a .s .now) (λ i. k .shared-slice-known .given i .fits) 9 (a .at)) in
+    h .1
+
+add-t13 : tie.Need-add-t13
+add-t13 c = search needs
+
+enum-told : tie.Need-enum-told
+enum-told c = search needs
+
+enum-told-2 : tie.Need-enum-told-2
+enum-told-2 c = search needs
+
+returns : tie.Need-returns
+unfolding partOf
+returns c = let v = c .before .before in
+    rw (sym (v .before .before .varint-at .ensures) ∙ v .value .given .1) (simp (le-leb _ _ (c .if1 .taken)))
+
+returns-2 : tie.Need-returns-2
+unfolding partOf
+returns-2 c = let v = c .before .before in
+    rw (sym (v .before .before .varint-at .ensures) ∙ v .value .given .1) (simp (lt-leb _ _ (c .if1 .left)))
+
+returns-3 : tie.Need-returns-3
+unfolding partOf
+returns-3 c = rw (sym (c .before .before .varint-at .ensures) ∙ c .enum-told .given .1)
+
+returns-4 : tie.Need-returns-4
+unfolding partOf
+returns-4 c = rw (sym (c .before .before .varint-at .ensures) ∙ c .enum-told2 .given .1)
+
+pub part-slow-spec : {M : Type 1} → statement M
+part-slow-spec =
+    tie.close
+    (tie.spec
+    varint-at-requires
+    enum-known-value
+    sub-left
+    add-t13
+    enum-told
+    enum-told-2
+    returns
+    returns-2
+    returns-3
+    returns-4)

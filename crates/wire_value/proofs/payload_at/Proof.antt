@@ -1,0 +1,108 @@
+use mathlib.Core.Path.{_≡_, sym, subst, _∙_}
+use borrow.Author.Tests.{le-leb, lt-leb, ne-eqb, eq-eqb}
+use Rattle.wire_value.specs.Field.{payloadAt, numberOf, partOf}
+use Rattle.wire_varint.proofs.Varints.{Within, within}
+use borrow.Author.Needs.{needs}
+use Rattle.wire_value.proofs.payload_at.Statement.{statement}
+use Rattle.wire_value.proofs.payload_at.Tie as tie
+use mathlib.Core.Path.{refl}
+use lib.Dec.{eqb}
+use mathlib.Core.Bool.{Bool, true, false}
+use Rattle.base_laws.specs.Base.{pick}
+use Rattle.wire_value.specs.declared.Payload.{Payload}
+
+either : (t : Bool) (p : Payload) → p ≡ pick t p p
+either true p = refl
+either false p = refl
+
+fixed-at-requires : tie.Need-fixed-at-requires
+fixed-at-requires c κs = search needs
+
+returns : tie.Need-returns
+unfolding payloadAt
+returns c = let w = c .before .if1 .taken in
+    c .fixed-at .ensures ∙ rw w
+
+fixed-at-requires-2 : tie.Need-fixed-at-requires-2
+fixed-at-requires-2 c κs = search needs
+
+returns-2 : tie.Need-returns-2
+unfolding payloadAt
+returns-2 c = let w = c .before .if2 .taken in
+    c .fixed-at2 .ensures ∙ rw w
+
+varint-at-requires : tie.Need-varint-at-requires
+varint-at-requires c κs = search needs
+
+enum-known-value : tie.Need-enum-known-value
+enum-known-value c = search needs
+
+returns-3 : tie.Need-returns-3
+unfolding payloadAt numberOf
+returns-3 c = let v = c .before .before in
+    rw (eq-eqb _ _ (c .if3 .taken), sym (v .before .before .varint-at .ensures) ∙ v .value .given .1)
+
+sub-left : tie.Need-sub-left
+sub-left c = let v = c .before .before in
+    let k = v .before .before in
+    let a = k .before .before .before .before .args in
+    let h = subst (Within (a .s .now) (a .from) 9) (sym (k .varint-at .ensures) ∙ v .value .given .1)
+    (within (a .s .now) (λ i. k .before .before .before .shared-slice-known .given i .fits) 9 (a .from)) in
+    h .1
+
+add-t16 : tie.Need-add-t16
+add-t16 c = search needs
+
+enum-told : tie.Need-enum-told
+enum-told c = search needs
+
+enum-told-2 : tie.Need-enum-told-2
+enum-told-2 c = search needs
+
+returns-4 : tie.Need-returns-4
+unfolding payloadAt partOf
+returns-4 c = let e = c .before in
+    let v = e .before .before in
+    let k = v .before .before in
+    rw (ne-eqb _ _ (e .if3 .left), ne-eqb _ _ (k .before .before .if1 .left), ne-eqb _ _ (k .before .if2 .left), sym (k .varint-at .ensures) ∙ v .value .given .1)
+    (simp (le-leb _ _ (c .if4 .taken)))
+
+returns-5 : tie.Need-returns-5
+unfolding payloadAt partOf
+returns-5 c = let e = c .before in
+    let v = e .before .before in
+    let k = v .before .before in
+    rw (ne-eqb _ _ (e .if3 .left), ne-eqb _ _ (k .before .before .if1 .left), ne-eqb _ _ (k .before .if2 .left), sym (k .varint-at .ensures) ∙ v .value .given .1)
+    (simp (lt-leb _ _ (c .if4 .left)))
+
+returns-6 : tie.Need-returns-6
+unfolding payloadAt numberOf partOf
+returns-6 c = let k = c .before .before in
+    rw (ne-eqb _ _ (k .before .before .if1 .left), ne-eqb _ _ (k .before .if2 .left), sym (k .varint-at .ensures) ∙ c .enum-told .given .1)
+    (either (eqb (k .before .before .before .before .args .wire) 0) _)
+
+returns-7 : tie.Need-returns-7
+unfolding payloadAt numberOf partOf
+returns-7 c = let k = c .before .before in
+    rw (ne-eqb _ _ (k .before .before .if1 .left), ne-eqb _ _ (k .before .if2 .left), sym (k .varint-at .ensures) ∙ c .enum-told2 .given .1)
+    (either (eqb (k .before .before .before .before .args .wire) 0) _)
+
+pub payload-at-spec : {M : Type 1} → statement M
+payload-at-spec =
+    tie.close
+    (tie.spec
+    fixed-at-requires
+    returns
+    fixed-at-requires-2
+    returns-2
+    varint-at-requires
+    enum-known-value
+    returns-3
+    sub-left
+    add-t16
+    enum-told
+    enum-told-2
+    returns-4
+    returns-5
+    returns-6
+    returns-7)

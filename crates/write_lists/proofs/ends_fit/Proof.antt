@@ -1,0 +1,56 @@
+use mathlib.Core.Bool.{true, not}
+use Rattle.write_lists.proofs.Lists.{ends-step, ends-done, not-not}
+use Rattle.write_forms.specs.Draft.{badEnds}
+use borrow.Author.Tests.{lt-ltb, le-ltb}
+use borrow.Author.Needs.{needs}
+use lib.ListN.{length, drop}
+use native.Mathlib.Omega.{arith}
+use Prim.Native.Nat.{_-_, _≤_}
+use mathlib.Core.Path.{_≡_, refl, sym, ap, _∙_}
+use Rattle.write_lists.proofs.ends_fit.Statement.{statement}
+use Rattle.write_lists.proofs.ends_fit.Tie as tie
+
+abbrev Inv-loop : tie.InvT-loop
+Inv-loop size ends a₀ i₀ a i = (i ≤ length ends) × (badEnds size a (drop i ends) ≡ badEnds size 0 ends)
+
+abbrev μ-loop : tie.MeasureT-loop
+μ-loop size ends a₀ i₀ a i = length ends - i
+
+loop-holds : tie.Need-loop-holds Inv-loop μ-loop
+loop-holds c = (search needs, refl)
+
+mul-e : tie.Need-mul-e Inv-loop μ-loop
+mul-e c = search needs
+
+shared-slice-read-e : tie.Need-shared-slice-read-e Inv-loop μ-loop
+shared-slice-read-e c = search needs
+
+returns : tie.Need-returns Inv-loop μ-loop
+returns c = let a = c .before .before .before .before .args in let l = c .before .before .before .loop in let e : badEnds (a .size) (l .a) (drop (l .i) (a .ends .now)) ≡ true = ends-step (a .size) (l .a) (a .ends .now) (l .i) (c .before .before .loop-test .taken) ∙ rw (lt-ltb _ _ (c .if1 .taken)) in sym (ap not (sym (l .inv .1) ∙ e))
+
+add-i : tie.Need-add-i Inv-loop μ-loop
+add-i c = search needs
+
+loop-less : tie.Need-loop-less Inv-loop μ-loop
+loop-less c = search needs
+
+loop-again : tie.Need-loop-again Inv-loop μ-loop
+loop-again c = let a = c .before .before .before .before .args in let l = c .before .before .before .loop in (omega arith, sym (rw (le-ltb _ _ (c .if1 .left)) at (ends-step (a .size) (l .a) (a .ends .now) (l .i) (c .before .before .loop-test .taken))) ∙ l .inv .1)
+
+returns-2 : tie.Need-returns-2 Inv-loop μ-loop
+returns-2 c = let a = c .before .before .args in let l = c .before .loop in not-not _ ∙ ap not (sym (ends-done (a .size) (l .a) (a .ends .now) (l .i) (c .loop-test .left)) ∙ l .inv .1)
+
+pub ends-fit-spec : {M : Type 1} → statement M
+ends-fit-spec =
+    tie.close
+    (tie.spec
+    Inv-loop
+    μ-loop
+    loop-holds
+    mul-e
+    shared-slice-read-e
+    returns
+    add-i
+    loop-less
+    loop-again
+    returns-2)

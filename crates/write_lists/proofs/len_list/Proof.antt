@@ -1,0 +1,80 @@
+use Rattle.write_lists.proofs.Lists.{Counted, next-end, counted-more, counted-long, counted-end}
+use borrow.Author.Needs.{needs}
+use lib.ListN.{length}
+use native.Mathlib.Omega.{arith}
+use Prim.Native.Nat.{_-_, _≤_}
+use Rattle.write_lists.proofs.len_list.Statement.{statement}
+use Rattle.write_lists.proofs.len_list.Tie as tie
+
+abbrev Inv-loop : tie.InvT-loop
+Inv-loop f joined ends a₀ n₀ i₀ a n i = (i ≤ length ends) × Counted f joined ends a n i
+
+abbrev μ-loop : tie.MeasureT-loop
+μ-loop f joined ends a₀ n₀ i₀ a n i = length ends - i
+
+loop-holds : tie.Need-loop-holds Inv-loop μ-loop
+loop-holds c = (search needs, record { good = c .before .before .pre; small = omega arith; all = omega arith })
+
+mul-e : tie.Need-mul-e Inv-loop μ-loop
+mul-e c = search needs
+
+shared-slice-read-e : tie.Need-shared-slice-read-e Inv-loop μ-loop
+shared-slice-read-e c = search needs
+
+sub-if1 : tie.Need-sub-if1 Inv-loop μ-loop
+sub-if1 c = omega (arith, next-end (c .before .before .loop .inv .1 .good) (c .before .loop-test .taken) .up)
+
+returns : tie.Need-returns Inv-loop μ-loop
+returns c = (counted-long (c .before .before .before .loop .inv .1) (c .before .before .loop-test .taken) (omega arith), omega arith)
+
+sub-len-head : tie.Need-sub-len-head Inv-loop μ-loop
+sub-len-head c = omega (arith, next-end (c .before .before .before .loop .inv .1 .good) (c .before .before .loop-test .taken) .up)
+
+len-head-requires : tie.Need-len-head-requires Inv-loop μ-loop
+len-head-requires c κs = search needs
+
+sub-n : tie.Need-sub-n Inv-loop μ-loop
+sub-n c = omega (arith, next-end (c .before .before .before .before .loop .inv .1 .good) (c .before .before .before .loop-test .taken) .up)
+
+add-n : tie.Need-add-n Inv-loop μ-loop
+add-n c = search needs
+
+add-n-2 : tie.Need-add-n-2 Inv-loop μ-loop
+add-n-2 c = omega (arith, c .before .before .before .before .loop .inv .1 .small)
+
+returns-2 : tie.Need-returns-2 Inv-loop μ-loop
+returns-2 c = (counted-long (c .before .before .before .before .before .loop .inv .1) (c .before .before .before .before .loop-test .taken) (omega arith), omega arith)
+
+add-i : tie.Need-add-i Inv-loop μ-loop
+add-i c = search needs
+
+loop-less : tie.Need-loop-less Inv-loop μ-loop
+loop-less c = search needs
+
+loop-again : tie.Need-loop-again Inv-loop μ-loop
+loop-again c = (omega arith, counted-more (c .before .before .before .before .before .loop .inv .1) (c .before .before .before .before .loop-test .taken) (c .before .len-head .ensures .0) (c .if2 .left))
+
+returns-3 : tie.Need-returns-3 Inv-loop μ-loop
+returns-3 c = (counted-end (c .before .loop .inv .1) (c .loop-test .left), omega (arith, c .before .loop .inv .1 .small))
+
+pub len-list-spec : {M : Type 1} → statement M
+len-list-spec =
+    tie.close
+    (tie.spec
+    Inv-loop
+    μ-loop
+    loop-holds
+    mul-e
+    shared-slice-read-e
+    sub-if1
+    returns
+    sub-len-head
+    len-head-requires
+    sub-n
+    add-n
+    add-n-2
+    returns-2
+    add-i
+    loop-less
+    loop-again
+    returns-3)

@@ -1,0 +1,60 @@
+use Rattle.write_lists.proofs.Packed.{Counted, counted-more, counted-long, counted-end}
+use borrow.Author.Needs.{needs}
+use lib.ListN.{length}
+use native.Mathlib.Omega.{arith}
+use Prim.Native.Nat.{_-_, _≤_}
+use Rattle.write_lists.proofs.len_packed.Statement.{statement}
+use Rattle.write_lists.proofs.len_packed.Tie as tie
+
+abbrev Inv-loop : tie.InvT-loop
+Inv-loop numbers n₀ i₀ n i = (i ≤ length numbers) × Counted numbers n i
+
+abbrev μ-loop : tie.MeasureT-loop
+μ-loop numbers n₀ i₀ n i = length numbers - i
+
+loop-holds : tie.Need-loop-holds Inv-loop μ-loop
+loop-holds c = (search needs, record { small = omega arith; all = omega arith })
+
+mul-len-varint : tie.Need-mul-len-varint Inv-loop μ-loop
+mul-len-varint c = search needs
+
+shared-slice-read-len-varint : tie.Need-shared-slice-read-len-varint Inv-loop μ-loop
+shared-slice-read-len-varint c = search needs
+
+len-varint-requires : tie.Need-len-varint-requires Inv-loop μ-loop
+len-varint-requires c κs = search needs
+
+add-n : tie.Need-add-n Inv-loop μ-loop
+add-n c = omega (arith, c .before .before .before .loop .inv .1 .small)
+
+returns : tie.Need-returns Inv-loop μ-loop
+returns c = (counted-long (c .before .before .before .before .loop .inv .1) (c .before .before .before .loop-test .taken) (c .before .len-varint .ensures .0) (c .if1 .taken), omega arith)
+
+add-i : tie.Need-add-i Inv-loop μ-loop
+add-i c = search needs
+
+loop-less : tie.Need-loop-less Inv-loop μ-loop
+loop-less c = search needs
+
+loop-again : tie.Need-loop-again Inv-loop μ-loop
+loop-again c = (omega arith, counted-more (c .before .before .before .before .loop .inv .1) (c .before .before .before .loop-test .taken) (c .before .len-varint .ensures .0) (c .if1 .left))
+
+returns-2 : tie.Need-returns-2 Inv-loop μ-loop
+returns-2 c = (counted-end (c .before .loop .inv .1) (c .loop-test .left), omega (arith, c .before .loop .inv .1 .small))
+
+pub len-packed-spec : {M : Type 1} → statement M
+len-packed-spec =
+    tie.close
+    (tie.spec
+    Inv-loop
+    μ-loop
+    loop-holds
+    mul-len-varint
+    shared-slice-read-len-varint
+    len-varint-requires
+    add-n
+    returns
+    add-i
+    loop-less
+    loop-again
+    returns-2)

@@ -1,0 +1,40 @@
+use Rattle.write_pieces.proofs.Lengths.{like-within}
+use Rattle.write_pieces.proofs.Fields.{text-none, text-some, length-text}
+use Rattle.write_pieces.proofs.Puts.{nothing, puts}
+use Rattle.write_forms.specs.Pieces.{head, packed}
+use lib.ListN.{length}
+use native.Mathlib.Omega.{arith}
+use Prim.Native.Nat.{ℕ}
+use mathlib.Core.Path.{_≡_, sym, ap, _∙_}
+use borrow.Author.Needs.{needs}
+use Rattle.write_lists.proofs.put_numbers.Statement.{statement}
+use Rattle.write_lists.proofs.put_numbers.Tie as tie
+
+len-packed-requires : tie.Need-len-packed-requires
+len-packed-requires c κs = search needs
+
+returns : tie.Need-returns
+returns c = let a = c .before .before .before .before .args in let e = like-within (c .before .len-packed .ensures .0) (c .before .before .before .before .pre .0) in rw (text-none 1 (packed (a .numbers .now)) (sym e ∙ c .if1 .taken)) (nothing (a .out .now) (a .at) (omega arith))
+
+put-head-requires : tie.Need-put-head-requires
+put-head-requires c κs = let d = packed (c .before .before .before .before .before .args .numbers .now) in let e = like-within (c .before .before .len-packed .ensures .0) (c .before .before .before .before .before .pre .0) in omega (arith, length-text 1 d (λ (z : length d ≡ 0). c .before .if1 .left (e ∙ z)), ap (λ (n : ℕ). length (head 1 n)) e)
+
+put-packed-requires : tie.Need-put-packed-requires
+put-packed-requires c κs = let d = packed (c .before .before .before .before .before .before .before .before .before .args .numbers .now) in let e = like-within (c .before .before .before .before .before .before .len-packed .ensures .0) (c .before .before .before .before .before .before .before .before .before .pre .0) in omega (arith, length-text 1 d (λ (z : length d ≡ 0). c .before .before .before .before .before .if1 .left (e ∙ z)), ap (λ (n : ℕ). length (head 1 n)) e)
+
+same-length : tie.Need-same-length
+same-length c = search needs
+
+returns-2 : tie.Need-returns-2
+returns-2 c = let d = packed (c .before .before .before .before .before .before .before .before .before .before .before .before .args .numbers .now) in let e = like-within (c .before .before .before .before .before .before .before .before .before .len-packed .ensures .0) (c .before .before .before .before .before .before .before .before .before .before .before .before .pre .0) in rw (text-some 1 d (λ (z : length d ≡ 0). c .before .before .before .before .before .before .before .before .if1 .left (e ∙ z)), ← e) (search puts)
+
+pub put-numbers-spec : {M : Type 1} → statement M
+put-numbers-spec =
+    tie.close
+    (tie.spec
+    len-packed-requires
+    returns
+    put-head-requires
+    put-packed-requires
+    same-length
+    returns-2)

@@ -1,0 +1,58 @@
+use Rattle.write_forms.specs.Pieces.{varint, packed}
+use lib.ListN.{length, drop, getD}
+use Rattle.write_lists.proofs.Packed.{next-number, no-number}
+use Rattle.write_pieces.proofs.Puts.{Filling, fill-start, fill-room, fill-more, fill-end}
+use borrow.Author.Needs.{needs}
+use native.Mathlib.Omega.{arith}
+use Prim.Native.Nat.{_+_, _-_, _≤_}
+use Rattle.write_lists.proofs.put_packed.Statement.{statement}
+use Rattle.write_lists.proofs.put_packed.Tie as tie
+
+abbrev Inv-loop : tie.InvT-loop
+Inv-loop out₀ at numbers o₀ i₀ out o i = (i ≤ length numbers) × Filling out₀ at (packed numbers) out o (packed (drop i numbers))
+
+abbrev μ-loop : tie.MeasureT-loop
+μ-loop out₀ at numbers o₀ i₀ out o i = length numbers - i
+
+loop-holds : tie.Need-loop-holds Inv-loop μ-loop
+loop-holds c = let a = c .before .before .args in (search needs, fill-start (a .out .now) (a .at) (packed (a .numbers .now)))
+
+mul-put-varint : tie.Need-mul-put-varint Inv-loop μ-loop
+mul-put-varint c = search needs
+
+shared-slice-read-put-varint : tie.Need-shared-slice-read-put-varint Inv-loop μ-loop
+shared-slice-read-put-varint c = search needs
+
+put-varint-requires : tie.Need-put-varint-requires Inv-loop μ-loop
+put-varint-requires c κs = let l = c .before .before .before .loop in let vs = c .before .before .before .before .before .before .args .numbers .now in fill-room (l .inv .1) (varint (getD vs (l .i) 0)) (packed (drop (l .i + 1) vs)) (next-number vs (l .i) (c .before .before .loop-test .taken)) (c .before .before .before .before .before .before .pre)
+
+add-i : tie.Need-add-i Inv-loop μ-loop
+add-i c = search needs
+
+loop-less : tie.Need-loop-less Inv-loop μ-loop
+loop-less c = search needs
+
+loop-again : tie.Need-loop-again Inv-loop μ-loop
+loop-again c = let l = c .before .before .before .before .before .before .loop in (omega arith, fill-more (l .inv .1) _ (next-number (c .before .before .before .before .before .before .before .before .before .args .numbers .now) (l .i) (c .before .before .before .before .before .loop-test .taken)) (c .before .before .put-varint .ensures))
+
+same-length : tie.Need-same-length Inv-loop μ-loop
+same-length c = omega (arith, c .before .loop .inv .1 .size)
+
+returns : tie.Need-returns Inv-loop μ-loop
+returns c = let l = c .before .loop in fill-end (l .inv .1) (no-number (c .before .before .before .before .args .numbers .now) (l .i) (c .loop-test .left)) (c .before .before .before .before .pre)
+
+pub put-packed-spec : {M : Type 1} → statement M
+put-packed-spec =
+    tie.close
+    (tie.spec
+    Inv-loop
+    μ-loop
+    loop-holds
+    mul-put-varint
+    shared-slice-read-put-varint
+    put-varint-requires
+    add-i
+    loop-less
+    loop-again
+    same-length
+    returns)

@@ -1,0 +1,37 @@
+use Rattle.write_forms.specs.Draft.{cutAt, badEnds}
+use Rattle.write_forms.specs.Pieces.{elements, encode, packed}
+use mathlib.Core.Path.{refl}
+use borrow.Author.Needs.{needs}
+use Rattle.write_message.proofs.write.write_plain.Statement.{statement}
+use Rattle.write_message.proofs.write.write_plain.Tie as tie
+
+slice-aggregate-write-message : tie.Need-slice-aggregate-write-message
+slice-aggregate-write-message c = search needs
+
+slice-aggregate-write-message-2 : tie.Need-slice-aggregate-write-message-2
+slice-aggregate-write-message-2 c = search needs
+
+slice-aggregate-write-message-3 : tie.Need-slice-aggregate-write-message-3
+slice-aggregate-write-message-3 c = search needs
+
+write-message-requires : tie.Need-write-message-requires
+unfolding badEnds
+write-message-requires c κs = (c .before .before .before .before .before .before .before .before .before .before .pre, λ h. refl)
+
+same-length : tie.Need-same-length
+same-length c = search needs
+
+returns : tie.Need-returns
+unfolding elements encode packed cutAt
+returns c = c .before .before .write-message .ensures
+
+pub write-plain-spec : {M : Type 1} → statement M
+write-plain-spec =
+    tie.close
+    (tie.spec
+    slice-aggregate-write-message
+    slice-aggregate-write-message-2
+    slice-aggregate-write-message-3
+    write-message-requires
+    same-length
+    returns)

@@ -1,0 +1,66 @@
+use native.Mathlib.Omega.{arith}
+use borrow.Author.Needs.{needs}
+use Rattle.write_pieces.proofs.Varints.{Putting, put-start, put-room, put-more, put-end}
+use Rattle.write_pieces.proofs.number.put_varint.Statement.{statement}
+use Rattle.write_pieces.proofs.number.put_varint.Tie as tie
+
+abbrev Inv-loop : tie.InvT-loop
+Inv-loop out₀ at v x₀ i₀ out x i = Putting out₀ at v out x i
+
+abbrev μ-loop : tie.MeasureT-loop
+μ-loop out₀ at v x₀ i₀ out x i = x
+
+loop-holds : tie.Need-loop-holds Inv-loop μ-loop
+loop-holds c = put-start (c .args .out .now) (c .args .at) (c .args .v) (search needs)
+
+add-out : tie.Need-add-out Inv-loop μ-loop
+add-out c = search needs
+
+cast-out : tie.Need-cast-out Inv-loop μ-loop
+cast-out c = search needs
+
+slice-write-out : tie.Need-slice-write-out Inv-loop μ-loop
+slice-write-out c = put-room (c .before .loop .inv) (c .before .before .pre)
+
+add-i : tie.Need-add-i Inv-loop μ-loop
+add-i c = search needs
+
+loop-less : tie.Need-loop-less Inv-loop μ-loop
+loop-less c = omega arith
+
+loop-again : tie.Need-loop-again Inv-loop μ-loop
+loop-again c = put-more (c .before .loop .inv) (c .before .before .pre) (c .loop-test .taken)
+
+cast-out-2 : tie.Need-cast-out-2 Inv-loop μ-loop
+cast-out-2 c = search needs
+
+slice-write-out-2 : tie.Need-slice-write-out-2 Inv-loop μ-loop
+slice-write-out-2 c = put-room (c .before .loop .inv) (c .before .before .pre)
+
+add-result : tie.Need-add-result Inv-loop μ-loop
+add-result c = search needs
+
+same-length : tie.Need-same-length Inv-loop μ-loop
+same-length c = search needs
+
+returns : tie.Need-returns Inv-loop μ-loop
+returns c = put-end (c .before .loop .inv) (c .before .before .pre) (c .loop-test .left)
+
+pub put-varint-spec : {M : Type 1} → statement M
+put-varint-spec =
+    tie.close
+    (tie.spec
+    Inv-loop
+    μ-loop
+    loop-holds
+    add-out
+    cast-out
+    slice-write-out
+    add-i
+    loop-less
+    loop-again
+    cast-out-2
+    slice-write-out-2
+    add-result
+    same-length
+    returns)

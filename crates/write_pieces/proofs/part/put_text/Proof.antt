@@ -1,0 +1,25 @@
+use Rattle.write_pieces.proofs.Fields.{text-none, text-some, length-text}
+use Rattle.write_pieces.proofs.Puts.{nothing, puts}
+use native.Mathlib.Omega.{arith}
+use borrow.Author.Needs.{needs}
+use Rattle.write_pieces.proofs.part.put_text.Statement.{statement}
+use Rattle.write_pieces.proofs.part.put_text.Tie as tie
+
+returns : tie.Need-returns
+returns c = let a = c .before .before .before .args in rw (text-none (a .f) (a .d .now) (c .if1 .taken)) (nothing (a .out .now) (a .at) (omega arith))
+
+put-head-requires : tie.Need-put-head-requires
+put-head-requires c κs = omega (arith, length-text (c .before .before .before .before .args .f) (c .before .before .before .before .args .d .now) (c .before .if1 .left))
+
+put-raw-requires : tie.Need-put-raw-requires
+put-raw-requires c κs = omega (arith, length-text (c .before .before .before .before .before .before .before .before .args .f) (c .before .before .before .before .before .before .before .before .args .d .now) (c .before .before .before .before .before .if1 .left))
+
+same-length : tie.Need-same-length
+same-length c = search needs
+
+returns-2 : tie.Need-returns-2
+returns-2 c = rw (text-some (c .before .before .before .before .before .before .before .before .before .before .before .args .f) (c .before .before .before .before .before .before .before .before .before .before .before .args .d .now) (c .before .before .before .before .before .before .before .before .if1 .left)) (search puts)
+
+pub put-text-spec : {M : Type 1} → statement M
+put-text-spec =
+    tie.close (tie.spec returns put-head-requires put-raw-requires same-length returns-2)

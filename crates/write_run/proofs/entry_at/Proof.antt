@@ -1,0 +1,47 @@
+use Rattle.write_forms.specs.Run.{entryOf, entryAt}
+use borrow.Author.Tests.{eq-eqb, ne-eqb}
+use mathlib.Core.Path.{sym, _∙_}
+use borrow.Author.Needs.{needs}
+use Rattle.write_run.proofs.entry_at.Statement.{statement}
+use Rattle.write_run.proofs.entry_at.Tie as tie
+
+tag-at-requires : tie.Need-tag-at-requires
+tag-at-requires c κs = search needs
+
+enum-known-refusal : tie.Need-enum-known-refusal
+enum-known-refusal c = search needs
+
+enum-known-number : tie.Need-enum-known-number
+enum-known-number c = search needs
+
+payload-at-requires : tie.Need-payload-at-requires
+payload-at-requires c κs = search needs
+
+returns : tie.Need-returns
+unfolding entryAt entryOf
+returns c = rw (sym (c .before .before .before .before .before .before .tag-at .ensures) ∙ c .before .before .before .before .number .given .1, eq-eqb _ _ (c .before .before .if1 .taken), eq-eqb _ _ (c .before .if2 .taken)) (c .payload-at .ensures)
+
+returns-2 : tie.Need-returns-2
+unfolding entryAt entryOf
+returns-2 c = rw (sym (c .before .before .before .before .before .tag-at .ensures) ∙ c .before .before .before .number .given .1, eq-eqb _ _ (c .before .if1 .taken), ne-eqb _ _ (c .if2 .left))
+
+returns-3 : tie.Need-returns-3
+unfolding entryAt entryOf
+returns-3 c = rw (sym (c .before .before .before .tag-at .ensures) ∙ c .before .refusal .given .1)
+
+returns-4 : tie.Need-returns-4
+unfolding entryAt entryOf
+returns-4 c = rw (sym (c .before .before .before .before .tag-at .ensures) ∙ c .before .before .number .given .1, ne-eqb _ _ (c .if1 .left))
+
+pub entry-at-spec : {M : Type 1} → statement M
+entry-at-spec =
+    tie.close
+    (tie.spec
+    tag-at-requires
+    enum-known-refusal
+    enum-known-number
+    payload-at-requires
+    returns
+    returns-2
+    returns-3
+    returns-4)

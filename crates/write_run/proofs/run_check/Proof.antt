@@ -1,0 +1,145 @@
+use Rattle.write_run.proofs.Runs.{Reached, reached, run-next, run-end}
+use Rattle.write_forms.specs.Run.{onEntry, runAt}
+use Rattle.wire_check_field.proofs.Checks.{Placed, placed}
+use Rattle.wire_check_field.specs.declared.Checked.{Checked}
+use Rattle.wire_value.specs.declared.Payload.the-variants as payload
+use Rattle.wire_value.specs.declared.Payload.{Payload}
+use Rattle.wire_check_field.specs.Check.{before}
+use Rattle.base_laws.proofs.Parts.{length-part}
+use Rattle.base_laws.specs.Base.{part}
+use borrow.Author.Needs.{needs}
+use lib.ListN.{length}
+use native.Mathlib.Omega.{arith}
+use mathlib.Core.List.{List}
+use Prim.Native.Nat.{ℕ, _-_, _≤_}
+use mathlib.Core.Path.{_≡_, refl, sym, ap, subst, _∙_}
+use Rattle.write_run.proofs.run_check.Statement.{statement}
+use Rattle.write_run.proofs.run_check.Tie as tie
+
+abbrev Inv-loop : tie.InvT-loop
+Inv-loop field s at₀ at = (at ≤ length s) × (runAt field s at ≡ runAt field s 0)
+
+abbrev μ-loop : tie.MeasureT-loop
+μ-loop field s at₀ at = length s - at
+
+-- after an entry's value: how far it reaches, and what is left to check
+after : (c : tie.After-entry-at Inv-loop μ-loop) → (x : Payload) → c .entry-at .result ≡ x
+    → (Reached (c .before .before .before .before .args .s .now) (c .before .before .loop .at) x)
+    × (onEntry (runAt (c .before .before .before .before .args .field) (c .before .before .before .before .args .s .now)) (c .before .before .before .before .args .s .now) x ≡ runAt (c .before .before .before .before .args .field) (c .before .before .before .before .args .s .now) 0)
+after c x e =
+    let a = c .before .before .before .before .args in
+    let l = c .before .before .loop in
+    let is = sym (c .entry-at .ensures) ∙ e in (
+      subst (Reached (a .s .now) (l .at)) is (reached (a .field) (a .s .now) (l .at) (l .inv .0)),
+      ap (λ (y : Payload). onEntry (runAt (a .field) (a .s .now)) (a .s .now) y) (sym is) ∙ sym (run-next (a .field) (a .s .now) (l .at) (c .before .loop-test .taken)) ∙ l .inv .1,
+    )
+
+-- after the check of an entry: what is left to check
+afterwards : (c : tie.After-check Inv-loop μ-loop) → (x : Checked) → c .check .result ≡ x
+    → before (c .before .before .before .start .given .0 .0) x (runAt (c .before .before .before .before .before .before .before .before .before .args .field) (c .before .before .before .before .before .before .before .before .before .args .s .now) (c .before .before .before .start .given .0 .1 .0)) ≡ runAt (c .before .before .before .before .before .before .before .before .before .args .field) (c .before .before .before .before .before .before .before .before .before .args .s .now) 0
+unfolding onEntry
+afterwards c x e =
+    let i = c .before .before .before in
+    let a = i .before .before .before .before .before .before .args in
+    ap (λ (y : Checked). before (i .start .given .0 .0) y (runAt (a .field) (a .s .now) (i .start .given .0 .1 .0))) (sym e ∙ c .check .ensures)
+    ∙ after (i .before .before) _ (i .start .given .1) .1
+
+loop-holds : tie.Need-loop-holds Inv-loop μ-loop
+loop-holds c = (omega arith, refl)
+
+entry-at-requires : tie.Need-entry-at-requires Inv-loop μ-loop
+entry-at-requires c κs = search needs
+
+enum-known-next : tie.Need-enum-known-next Inv-loop μ-loop
+enum-known-next c = search needs
+
+loop-less : tie.Need-loop-less Inv-loop μ-loop
+loop-less c = let h = after (c .before .before .before) _ (c .before .next .given .1) .0 in omega arith
+
+loop-again : tie.Need-loop-again Inv-loop μ-loop
+unfolding onEntry
+loop-again c = let h = after (c .before .before .before) _ (c .before .next .given .1) in (h .0 .1, h .1)
+
+enum-known-next-2 : tie.Need-enum-known-next-2 Inv-loop μ-loop
+enum-known-next-2 c = search needs
+
+loop-less-2 : tie.Need-loop-less-2 Inv-loop μ-loop
+loop-less-2 c = let h = after (c .before .before .before) _ (c .before .next2 .given .1) .0 in omega arith
+
+loop-again-2 : tie.Need-loop-again-2 Inv-loop μ-loop
+unfolding onEntry
+loop-again-2 c = let h = after (c .before .before .before) _ (c .before .next2 .given .1) in (h .0 .1, h .1)
+
+enum-known-start : tie.Need-enum-known-start Inv-loop μ-loop
+enum-known-start c = search needs
+
+sub-check : tie.Need-sub-check Inv-loop μ-loop
+sub-check c = after (c .before .before .before) _ (c .before .start .given .1) .0 .1
+
+part-check-start : tie.Need-part-check-start Inv-loop μ-loop
+part-check-start c = let h = after (c .before .before .before) _ (c .before .start .given .1) .0 in omega arith
+
+part-check-end : tie.Need-part-check-end Inv-loop μ-loop
+part-check-end c = let h = after (c .before .before .before) _ (c .before .start .given .1) .0 in omega arith
+
+check-requires : tie.Need-check-requires Inv-loop μ-loop
+check-requires c κs = search needs
+
+enum-told : tie.Need-enum-told Inv-loop μ-loop
+enum-told c = search needs
+
+loop-less-3 : tie.Need-loop-less-3 Inv-loop μ-loop
+loop-less-3 c = let h = after (c .before .before .before .before .before .before .before) _ (c .before .before .before .before .before .start .given .1) .0 in omega arith
+
+loop-again-3 : tie.Need-loop-again-3 Inv-loop μ-loop
+unfolding before
+loop-again-3 c = (after (c .before .before .before .before .before .before .before) _ (c .before .before .before .before .before .start .given .1) .0 .2, afterwards (c .before .before) _ (c .enum-told .given .1))
+
+enum-known-refusal : tie.Need-enum-known-refusal Inv-loop μ-loop
+enum-known-refusal c = search needs
+
+add-t20 : tie.Need-add-t20 Inv-loop μ-loop
+add-t20 c = let h = after (c .before .before .before .before .before .before .before .before) _ (c .before .before .before .before .before .before .start .given .1) .0 in let s = c .before .before .before .before .before .before .before .before .before .before .before .before .args .s .now in let p : List ℕ = part s (c .before .before .before .before .before .before .start .given .0 .0) (c .before .before .before .before .before .before .start .given .0 .1 .0) in let q = subst (Placed p) (sym (c .before .before .before .check .ensures) ∙ c .before .refusal .given .1) (placed 11 p 0) in omega (arith, length-part s (c .before .before .before .before .before .before .start .given .0 .0) (c .before .before .before .before .before .before .start .given .0 .1 .0) (h .1) (h .2), q)
+
+returns : tie.Need-returns Inv-loop μ-loop
+unfolding before
+returns c = afterwards (c .before .before .before) _ (c .before .refusal .given .1)
+
+enum-known-refusal-2 : tie.Need-enum-known-refusal-2 Inv-loop μ-loop
+enum-known-refusal-2 c = search needs
+
+returns-2 : tie.Need-returns-2 Inv-loop μ-loop
+unfolding onEntry
+returns-2 c = after (c .before .before .before) _ (c .before .refusal2 .given .1) .1
+
+returns-3 : tie.Need-returns-3 Inv-loop μ-loop
+returns-3 c = sym (run-end (c .before .before .before .args .field) (c .before .before .before .args .s .now) (c .before .loop .at) (c .loop-test .left)) ∙ c .before .loop .inv .1
+
+pub run-check-spec : {M : Type 1} → statement M
+run-check-spec =
+    tie.close
+    (tie.spec
+    Inv-loop
+    μ-loop
+    loop-holds
+    entry-at-requires
+    enum-known-next
+    loop-less
+    loop-again
+    enum-known-next-2
+    loop-less-2
+    loop-again-2
+    enum-known-start
+    sub-check
+    part-check-start
+    part-check-end
+    check-requires
+    enum-told
+    loop-less-3
+    loop-again-3
+    enum-known-refusal
+    add-t20
+    returns
+    enum-known-refusal-2
+    returns-2
+    returns-3)

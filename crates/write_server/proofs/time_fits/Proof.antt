@@ -1,0 +1,23 @@
+use borrow.Author.Tests.{ne-eqb}
+use Rattle.base_laws.proofs.Tests.{tests}
+use Rattle.write_range.specs.Fits.{timeFits}
+use borrow.Author.Needs.{needs}
+use Rattle.write_server.proofs.time_fits.Statement.{statement}
+use Rattle.write_server.proofs.time_fits.Tie as tie
+
+returns : tie.Need-returns
+unfolding timeFits
+returns c = search tests
+
+moment-fits-requires : tie.Need-moment-fits-requires
+moment-fits-requires c κs = search needs
+
+both-requires : tie.Need-both-requires
+both-requires c κs = search needs
+
+returns-2 : tie.Need-returns-2
+unfolding timeFits
+returns-2 c = rw (ne-eqb (c .before .before .before .args .member) 0 (c .before .before .if1 .left), ← c .before .moment-fits .ensures) (c .both .ensures)
+
+pub time-fits-spec : {M : Type 1} → statement M
+time-fits-spec = tie.close (tie.spec returns moment-fits-requires both-requires returns-2)

@@ -1,0 +1,51 @@
+use Rattle.write_message.proofs.Outcomes.{same-outcome, same-note}
+use Rattle.write_range.proofs.Members.{note-member}
+use Rattle.write_pieces.specs.Put.{cover, around}
+use Rattle.write_forms.specs.Pieces.{encode}
+use native.Mathlib.Omega.{arith}
+use mathlib.Core.Path.{refl}
+use borrow.Author.Needs.{needs}
+use Rattle.write_server.proofs.write_note.Statement.{statement}
+use Rattle.write_server.proofs.write_note.Tie as tie
+
+both-requires : tie.Need-both-requires
+both-requires c κs = search needs
+
+listed-requires : tie.Need-listed-requires
+listed-requires c κs = search needs
+
+slice-aggregate-write-plain : tie.Need-slice-aggregate-write-plain
+slice-aggregate-write-plain c = search needs
+
+slice-aggregate-write-plain-2 : tie.Need-slice-aggregate-write-plain-2
+slice-aggregate-write-plain-2 c = search needs
+
+slice-aggregate-write-plain-3 : tie.Need-slice-aggregate-write-plain-3
+slice-aggregate-write-plain-3 c = search needs
+
+slice-aggregate-write-plain-4 : tie.Need-slice-aggregate-write-plain-4
+slice-aggregate-write-plain-4 c = search needs
+
+write-plain-requires : tie.Need-write-plain-requires
+write-plain-requires c κs = λ h. let m = note-member (c .before .before .before .before .before .before .before .before .before .args .member) (c .before .before .before .before .before .before .both .ensures) h in omega arith
+
+same-length : tie.Need-same-length
+same-length c = search needs
+
+returns : tie.Need-returns
+unfolding encode around cover
+returns c = same-outcome (c .before .before .write-plain .ensures) _ _ _ refl (c .before .before .before .before .before .before .before .before .before .both .ensures) (λ h. let m = note-member (c .before .before .before .before .before .before .before .before .before .before .before .before .args .member) refl h in rw (c .before .before .before .before .before .before .before .before .listed .ensures) (same-note (c .before .before .before .before .before .before .before .before .before .before .before .before .args .member) _ (c .before .before .before .before .before .before .before .before .before .before .before .before .args .note .now) (λ z. omega arith) refl))
+
+pub write-note-spec : {M : Type 1} → statement M
+write-note-spec =
+    tie.close
+    (tie.spec
+    both-requires
+    listed-requires
+    slice-aggregate-write-plain
+    slice-aggregate-write-plain-2
+    slice-aggregate-write-plain-3
+    slice-aggregate-write-plain-4
+    write-plain-requires
+    same-length
+    returns)

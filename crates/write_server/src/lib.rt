@@ -1,0 +1,84 @@
+// The writers of a ServerMessage's members, as in `client_writer`.
+use write_fields::listed;
+use write_fields::numbered;
+use write_lists::ends_fit;
+use write_message::outcome::Wrote;
+use write_message::write::write_message;
+use write_message::write::write_plain;
+use write_range::both;
+use write_range::flag;
+use write_range::member_in;
+use write_range::moment_fits;
+ghost use mathlib.Core.Path.{_≡_};
+ghost use mathlib.Core.List.{[], _∷_};
+ghost use lib.ListN.{length};
+ghost use Rattle.write_forms.specs.Pieces.{bytes, encodeAll};
+ghost use Rattle.write_forms.specs.Draft.{timePieces, serverHelloPieces, cutAt, wrapped};
+ghost use Rattle.write_forms.specs.Outcome.{buffer};
+ghost use Rattle.write_pieces.specs.Put.{stamp};
+ghost use Rattle.write_range.specs.Fits.{serverHelloFits, timeFits, noteFits};
+ghost use Rattle.write_message.specs.Wrote.{wrote};
+
+// A ServerHello, member 1; its servers are lent as joined bytes and ends.
+pub fn write_server_hello(
+    member: u64,
+    server_id: &[u8],
+    redirect: &[u8],
+    joined: &[u8],
+    ends: &[usize],
+    subcommands: bool,
+    framed: bool,
+    out: &mut [u8],
+) -> Wrote
+    ensures answer { λ r. ⌜ r ≡ wrote 0 (serverHelloFits member (now (joined .entry)) (now (ends .entry))) framed (wrapped member (serverHelloPieces (now («server_id» .entry)) (now (redirect .entry)) (cutAt (now (joined .entry)) 0 (now (ends .entry))) subcommands)) (length (now (out .entry))) ⌝ }
+    ensures buffer { λ r. ⌜ now (out .exit) ≡ buffer 0 (serverHelloFits member (now (joined .entry)) (now (ends .entry))) framed (wrapped member (serverHelloPieces (now («server_id» .entry)) (now (redirect .entry)) (cutAt (now (joined .entry)) 0 (now (ends .entry))) subcommands)) (now (out .entry)) ⌝ }
+{
+    let fits = both(member_in(1, 1, member), ends_fit(joined.len(), ends));
+    let p = listed(3, 0, flag(subcommands));
+    write_message(
+        0,
+        fits,
+        member,
+        p,
+        server_id,
+        redirect,
+        joined,
+        ends,
+        &[],
+        &[],
+        &[],
+        &[],
+        framed,
+        out,
+    )
+}
+
+// A TimeSpec by itself has no range.
+fn time_fits(member: u64, seconds: u64, nanos: u64) -> bool
+    ensures { λ r. ⌜ r ≡ timeFits member (stamp seconds nanos) ⌝ }
+{
+    if member == 0 {
+        return true;
+    }
+    both(member == 2, moment_fits(seconds, nanos))
+}
+
+// A TimeSpec by itself, or a commit_point, member 2.
+pub fn write_time(member: u64, seconds: u64, nanos: u64, framed: bool, out: &mut [u8]) -> Wrote
+    ensures answer { λ r. ⌜ r ≡ wrote 0 (timeFits member (stamp seconds nanos)) framed (wrapped member (timePieces (stamp seconds nanos))) (length (now (out .entry))) ⌝ }
+    ensures buffer { λ r. ⌜ now (out .exit) ≡ buffer 0 (timeFits member (stamp seconds nanos)) framed (wrapped member (timePieces (stamp seconds nanos))) (now (out .entry)) ⌝ }
+{
+    let fits = time_fits(member, seconds, nanos);
+    let p = numbered(seconds, nanos, false);
+    write_plain(0, fits, member, p, &[], &[], &[], &[], &[], framed, out)
+}
+
+// A log_id, an error or an abort, members 3 to 5: the string is the member itself.
+pub fn write_note(member: u64, note: &[u8], framed: bool, out: &mut [u8]) -> Wrote
+    ensures answer { λ r. ⌜ r ≡ wrote 0 (noteFits member) framed (encodeAll (bytes member (now (note .entry)) ∷ [])) (length (now (out .entry))) ⌝ }
+    ensures buffer { λ r. ⌜ now (out .exit) ≡ buffer 0 (noteFits member) framed (encodeAll (bytes member (now (note .entry)) ∷ [])) (now (out .entry)) ⌝ }
+{
+    let fits = both(3 <= member, member <= 5);
+    let p = listed(0, 0, 0);
+    write_plain(0, fits, member, p, &[], &[], note, &[], &[], framed, out)
+}
