@@ -9,10 +9,10 @@ use lib.ListN.{length, getD}
 use Rattle.base_laws.specs.Base.{pick, both, part}
 use Rattle.wire_varint.specs.Varint.{varintAt}
 use Rattle.wire_value.specs.Field.{numberOf, partOf, payloadAt}
-use Rattle.wire_tag.specs.Tag.{tagOf}
+use Rattle.wire_varint.specs.Tag.{tagOf}
 use Rattle.wire_varint.specs.declared.Varint.the-variants.{Value}
-use Rattle.wire_tag.specs.declared.Tag.{Tag}
-use Rattle.wire_tag.specs.declared.Tag.the-variants as tag
+use Rattle.wire_varint.specs.declared.tag.Tag.{Tag}
+use Rattle.wire_varint.specs.declared.tag.Tag.the-variants as tag
 use Rattle.wire_value.specs.declared.Payload.{Payload}
 use Rattle.wire_value.specs.declared.Payload.the-variants as payload
 use Rattle.wire_fields.specs.Fields.{fieldOf, fieldFrom, fieldAt, onField, fieldsFrom, fieldsAt, among}

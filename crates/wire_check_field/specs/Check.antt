@@ -7,10 +7,10 @@ use lib.Dec.{ltb, leb, eqb}
 use Rattle.base_laws.specs.Base.{pick, part}
 use Rattle.wire_varint.specs.Varint.{varintAt}
 use Rattle.wire_value.specs.Field.{numberOf, payloadAt}
-use Rattle.wire_tag.specs.Tag.{tagAt}
+use Rattle.wire_varint.specs.Tag.{tagAt}
 use Rattle.wire_schema.specs.Schema.{kindOf, takes}
-use Rattle.wire_tag.specs.declared.Tag.{Tag}
-use Rattle.wire_tag.specs.declared.Tag.the-variants as tag
+use Rattle.wire_varint.specs.declared.tag.Tag.{Tag}
+use Rattle.wire_varint.specs.declared.tag.Tag.the-variants as tag
 use Rattle.wire_value.specs.declared.Payload.{Payload}
 use Rattle.wire_value.specs.declared.Payload.the-variants as payload
 use Rattle.wire_check_field.specs.declared.Step.{Step}

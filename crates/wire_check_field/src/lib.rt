@@ -1,14 +1,14 @@
 // The check of one field of any message, by the one schema, and what the check of a whole message answers (`message_check`).
 use wire_schema::kind_of;
 use wire_schema::takes;
-use wire_tag::Tag;
-use wire_tag::tag_at;
-use wire_tag::tag_of;
 use wire_value::Payload;
 use wire_value::number_at;
 use wire_value::payload_at;
+use wire_varint::tag::Tag;
+use wire_varint::tag::tag_at;
+use wire_varint::tag::tag_of;
 ghost use mathlib.Core.Path.{_≡_};
-ghost use Rattle.wire_tag.specs.Tag.{tagOf};
+ghost use Rattle.wire_varint.specs.Tag.{tagOf};
 ghost use Rattle.wire_check_field.specs.Check.{stepOf, stepFrom, stepAt};
 ghost use Rattle.wire_varint.specs.declared.Varint.the-variants.{Value};
 

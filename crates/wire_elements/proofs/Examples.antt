@@ -4,7 +4,7 @@ use mathlib.Core.List.{List, [], _∷_}
 use Prim.Native.Nat.{ℕ}
 use Rattle.wire_varint.specs.Varint.{varintFrom}
 use Rattle.wire_value.specs.Field.{numberOf, partOf, payloadAt}
-use Rattle.wire_tag.specs.Tag.{tagFits, tagOf, tagAt}
+use Rattle.wire_varint.specs.Tag.{tagFits, tagOf, tagAt}
 use Rattle.wire_fields.specs.Fields.{fieldOf, fieldFrom, fieldAt, onField, fieldsFrom, fieldsAt}
 use Rattle.wire_fields.specs.Items.{items, everyBytes}
 use Rattle.wire_elements.specs.Elements.{elementsAt, onVarint, varintsFrom, varintsAt, numbersOf, numbersAt}

@@ -11,9 +11,9 @@ use Rattle.base_laws.specs.Base.{pick, both, part}
 use Rattle.wire_varint.specs.Varint.{varintAt}
 use Rattle.wire_schema.specs.Schema.{kindOf, takes, schema}
 use Rattle.wire_value.specs.Field.{partOf, payloadAt}
-use Rattle.wire_tag.specs.Tag.{tagFits, tagOf, tagAt}
+use Rattle.wire_varint.specs.Tag.{tagFits, tagOf, tagAt}
 use Rattle.wire_varint.specs.declared.Varint.the-variants.{Value}
-use Rattle.wire_tag.specs.declared.Tag.the-variants as tag
+use Rattle.wire_varint.specs.declared.tag.Tag.the-variants as tag
 use Rattle.wire_value.specs.declared.Payload.the-variants.{Part}
 use Rattle.base_laws.proofs.Order.{both-true}
 use Rattle.base_laws.proofs.Parts.{length-part}

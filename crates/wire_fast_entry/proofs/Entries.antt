@@ -13,12 +13,12 @@ use Rattle.base_laws.proofs.Order.{picked, both-true}
 use Rattle.wire_varint.specs.Varint.{varintAt}
 use Rattle.wire_schema.specs.Schema.{kindOf, takes, schema, InfoMessage, StringList}
 use Rattle.wire_value.specs.Field.{numberOf, partOf, payloadAt}
-use Rattle.wire_tag.specs.Tag.{tagFits, tagOf, tagAt}
+use Rattle.wire_varint.specs.Tag.{tagFits, tagOf, tagAt}
 use Rattle.wire_check_field.specs.Check.{stepOf, stepAt, checkAt, checkOf}
 use Rattle.wire_fields.specs.Fields.{fieldOf, fieldAt, onField, fieldsAt}
 use Rattle.wire_fast_entry.specs.Entry.{keyEnd, Holds, Reaches, Formed}
 use Rattle.wire_varint.specs.declared.Varint.the-variants.{Value}
-use Rattle.wire_tag.specs.declared.Tag.the-variants as tag
+use Rattle.wire_varint.specs.declared.tag.Tag.the-variants as tag
 use Rattle.wire_value.specs.declared.Payload.the-variants as payload
 use Rattle.wire_check_field.specs.declared.Step.the-variants.{Next}
 use Rattle.wire_check_field.specs.declared.Checked.{Checked}

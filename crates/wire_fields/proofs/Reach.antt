@@ -10,11 +10,11 @@ use borrow.Author.Tests.{leb-true}
 use Rattle.base_laws.proofs.Order.{lt-or-le, picked}
 use Rattle.wire_varint.specs.Varint.{varintFrom, varintAt, above}
 use Rattle.wire_value.specs.Field.{fixedAt, numberOf, partOf, payloadAt}
-use Rattle.wire_tag.specs.Tag.{tagFits, tagOf, tagAt}
+use Rattle.wire_varint.specs.Tag.{tagFits, tagOf, tagAt}
 use Rattle.wire_varint.specs.declared.Varint.{Varint}
 use Rattle.wire_varint.specs.declared.Varint.the-variants.{Value, PastEnd, TooLong}
-use Rattle.wire_tag.specs.declared.Tag.{Tag}
-use Rattle.wire_tag.specs.declared.Tag.the-variants as tag
+use Rattle.wire_varint.specs.declared.tag.Tag.{Tag}
+use Rattle.wire_varint.specs.declared.tag.Tag.the-variants as tag
 use Rattle.wire_value.specs.declared.Payload.{Payload}
 use Rattle.wire_value.specs.declared.Payload.the-variants as payload
 use Rattle.wire_varint.proofs.Varints.{past, last-fits, last-long, ends, goes-on}

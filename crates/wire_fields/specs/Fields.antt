@@ -8,9 +8,9 @@ use lib.ListN.{length}
 use lib.Dec.{ltb, leb, eqb}
 use Rattle.base_laws.specs.Base.{pick, both}
 use Rattle.wire_value.specs.Field.{payloadAt}
-use Rattle.wire_tag.specs.Tag.{tagAt}
-use Rattle.wire_tag.specs.declared.Tag.{Tag}
-use Rattle.wire_tag.specs.declared.Tag.the-variants as tag
+use Rattle.wire_varint.specs.Tag.{tagAt}
+use Rattle.wire_varint.specs.declared.tag.Tag.{Tag}
+use Rattle.wire_varint.specs.declared.tag.Tag.the-variants as tag
 use Rattle.wire_value.specs.declared.Payload.{Payload}
 use Rattle.wire_value.specs.declared.Payload.the-variants as payload
 use Rattle.wire_fields.specs.declared.Field.{Field}

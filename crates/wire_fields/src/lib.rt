@@ -1,9 +1,9 @@
 // A message's fields, one after the other, and the last of some numbers among them.
-use wire_tag::Tag;
-use wire_tag::tag_at;
 use wire_value::Payload;
 use wire_value::part_at;
 use wire_value::payload_at;
+use wire_varint::tag::Tag;
+use wire_varint::tag::tag_at;
 ghost use mathlib.Core.Path.{_≡_};
 ghost use Prim.Native.Nat.{_-_};
 ghost use Rattle.wire_varint.specs.Varint.{varintAt};

@@ -1,4 +1,6 @@
 // Varints.
+pub mod tag;
+
 use base_laws::wide;
 ghost use mathlib.Core.Path.{_≡_};
 ghost use Rattle.wire_varint.specs.Varint.{varintAt};

@@ -11,7 +11,7 @@ use Rattle.base_laws.specs.Base.{pick, both}
 use Rattle.wire_varint.specs.Varint.{varintAt}
 use Rattle.wire_schema.specs.Schema.{kindOf, takes, schema}
 use Rattle.wire_value.specs.Field.{payloadAt}
-use Rattle.wire_tag.specs.Tag.{tagAt}
+use Rattle.wire_varint.specs.Tag.{tagAt}
 use Rattle.wire_check_field.specs.Check.{stepOf, stepAt}
 use Rattle.base_laws.specs.Base.{part}
 use Rattle.wire_check_field.specs.Check.{checkAt, checkOf}
@@ -19,7 +19,7 @@ use Rattle.wire_fields.specs.Fields.{fieldOf, fieldsAt, among, later, lastOf, l
 use Rattle.wire_walk_io.specs.Places.{timeIn, ioRead, ioBufferOf}
 use Rattle.wire_walk_client.specs.Client.{memberRead, clientFrom, clientRead, clientOf}
 use Rattle.wire_fields.specs.Fields.{startFrom, endFrom}
-use Rattle.wire_tag.specs.declared.Tag.the-variants as tag
+use Rattle.wire_varint.specs.declared.tag.Tag.the-variants as tag
 use Rattle.wire_value.specs.declared.Payload.{Payload}
 use Rattle.wire_value.specs.declared.Payload.the-variants as payload
 use Rattle.wire_check_field.specs.declared.Step.the-variants as step

@@ -11,7 +11,7 @@ use Rattle.base_laws.specs.Base.{pick}
 use Rattle.wire_varint.specs.Varint.{varintAt}
 use Rattle.wire_schema.specs.Schema.{kindOf, takes, schema}
 use Rattle.wire_value.specs.Field.{partOf}
-use Rattle.wire_tag.specs.Tag.{tagFits, tagOf}
+use Rattle.wire_varint.specs.Tag.{tagFits, tagOf}
 use Rattle.wire_check_field.specs.Check.{stepFrom, stepAt}
 use Rattle.base_laws.specs.Base.{part}
 use Rattle.wire_check_field.specs.Check.{checkAt, checkOf}

@@ -10,7 +10,7 @@ use borrow.Author.Tests.{lt-leb, ne-eqb, eqb-true}
 use Rattle.wire_varint.specs.Varint.{varintAt}
 use Rattle.wire_schema.specs.Schema.{kindOf, takes, schema}
 use Rattle.wire_value.specs.Field.{payloadAt}
-use Rattle.wire_tag.specs.Tag.{tagFits, tagOf}
+use Rattle.wire_varint.specs.Tag.{tagFits, tagOf}
 use Rattle.wire_check_field.specs.Check.{stepOf, stepFrom, stepAt}
 use Rattle.wire_check_field.specs.Check.{checkAt, checkOf}
 use Rattle.wire_fields.specs.Fields.{fieldOf, fieldsAt, fieldsOf, among, later, lastOf}

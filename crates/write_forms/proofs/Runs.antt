@@ -14,15 +14,15 @@ use Rattle.base_laws.proofs.Order.{lt-or-le, picked}
 use Rattle.wire_varint.specs.Varint.{varintAt}
 use Rattle.wire_schema.specs.Schema.{kindOf, takes, message, InfoMessage}
 use Rattle.wire_value.specs.Field.{partOf, payloadAt}
-use Rattle.wire_tag.specs.Tag.{tagAt}
+use Rattle.wire_varint.specs.Tag.{tagAt}
 use Rattle.wire_check_field.specs.Check.{stepOf, stepFrom, stepAt}
 use Rattle.wire_check_field.specs.Check.{before, checkOf}
 use Rattle.wire_fields.specs.Fields.{among, fieldOf, fieldFrom, fieldAt, onField, fieldsAt}
 use Rattle.wire_fields.specs.Items.{Item, bytes, itemOf, items, lastFrom}
 use Rattle.wire_varint.specs.declared.Varint.{Varint}
 use Rattle.wire_varint.specs.declared.Varint.the-variants.{Value, PastEnd, TooLong}
-use Rattle.wire_tag.specs.declared.Tag.{Tag}
-use Rattle.wire_tag.specs.declared.Tag.the-variants as tag
+use Rattle.wire_varint.specs.declared.tag.Tag.{Tag}
+use Rattle.wire_varint.specs.declared.tag.Tag.the-variants as tag
 use Rattle.wire_value.specs.declared.Payload.{Payload}
 use Rattle.wire_value.specs.declared.Payload.the-variants as payload
 use Rattle.wire_check_field.specs.declared.Step.the-variants as step

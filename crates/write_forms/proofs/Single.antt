@@ -15,13 +15,13 @@ use Rattle.wire_varint.specs.Varint as r
 use Rattle.wire_varint.specs.Varint.{varintAt}
 use Rattle.wire_schema.specs.Schema.{kindOf, takes}
 use Rattle.wire_value.specs.Field.{numberOf, partOf, payloadAt}
-use Rattle.wire_tag.specs.Tag.{tagFits, tagOf, tagAt}
+use Rattle.wire_varint.specs.Tag.{tagFits, tagOf, tagAt}
 use Rattle.wire_check_field.specs.Check.{stepOf, stepFrom, stepAt}
 use Rattle.wire_check_field.specs.Check.{checkOf}
 use Rattle.wire_fields.specs.Fields.{fieldOf, fieldFrom, fieldAt, onField, fieldsAt}
 use Rattle.wire_fields.specs.Items.{number, bytes, itemOf, items}
 use Rattle.wire_varint.specs.declared.Varint.the-variants.{Value}
-use Rattle.wire_tag.specs.declared.Tag.the-variants as tag
+use Rattle.wire_varint.specs.declared.tag.Tag.the-variants as tag
 use Rattle.wire_value.specs.declared.Payload.{Payload}
 use Rattle.wire_value.specs.declared.Payload.the-variants as payload
 use Rattle.wire_check_field.specs.declared.Step.the-variants as step

@@ -2,10 +2,10 @@
 use wire_check::check;
 use wire_check_field::Checked;
 use wire_limits::entries_fit;
-use wire_tag::Tag;
-use wire_tag::tag_at;
 use wire_value::Payload;
 use wire_value::payload_at;
+use wire_varint::tag::Tag;
+use wire_varint::tag::tag_at;
 ghost use mathlib.Core.Path.{_≡_};
 ghost use Rattle.write_forms.specs.Run.{entryAt, runAt, runRefusal};
 

@@ -4,7 +4,7 @@ use mathlib.Core.Path.{refl, sym, subst, _∙_}
 use lib.ListN.{length}
 use lib.Dec.{lit≤}
 use borrow.Author.Needs.{needs}
-use Rattle.wire_tag.specs.Tag.{tagFits, tagOf}
+use Rattle.wire_varint.specs.Tag.{tagFits, tagOf}
 use Rattle.wire_fields.proofs.Lengths.{found-part}
 use Rattle.wire_message.specs.Signed.{bool}
 use Rattle.session_fast_accept.specs.Summary.{EntrySeen, Summarised}

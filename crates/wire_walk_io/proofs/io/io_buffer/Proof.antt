@@ -4,7 +4,7 @@ use Prim.Native.Nat.{ℕ, _-_}
 use mathlib.Core.Path.{refl, sym, subst, _∙_}
 use mathlib.Core.List.{List}
 use lib.ListN.{length}
-use Rattle.wire_tag.specs.Tag.{tagOf}
+use Rattle.wire_varint.specs.Tag.{tagOf}
 use Rattle.base_laws.specs.Base.{part}
 use Rattle.wire_check_field.specs.Check.{checkOf}
 use Rattle.wire_walk_io.specs.Places.{timeOf}

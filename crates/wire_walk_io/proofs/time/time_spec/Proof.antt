@@ -3,7 +3,7 @@ use native.Mathlib.Omega.{arith}
 use Prim.Native.Nat.{_-_}
 use mathlib.Core.Path.{refl, sym, _∙_}
 use lib.ListN.{length}
-use Rattle.wire_tag.specs.Tag.{tagOf}
+use Rattle.wire_varint.specs.Tag.{tagOf}
 use Rattle.wire_check_field.proofs.Walk.{no-tag, rest-stops}
 use Rattle.wire_walk_io.proofs.Times.{Going, start, finish, stop, second, nano, second-past, second-long, nano-past, nano-long, rest, no-inside}
 use Rattle.wire_walk_io.proofs.time.time_spec.Statement.{statement}

@@ -1,7 +1,7 @@
 use Rattle.base_laws.proofs.Tests.{tests}
-use Rattle.wire_tag.specs.Tag.{tagFits}
-use Rattle.wire_tag.proofs.tag_fits.Statement.{statement}
-use Rattle.wire_tag.proofs.tag_fits.Tie as tie
+use Rattle.wire_varint.specs.Tag.{tagFits}
+use Rattle.wire_varint.proofs.tag.tag_fits.Statement.{statement}
+use Rattle.wire_varint.proofs.tag.tag_fits.Tie as tie
 
 returns : tie.Need-returns
 unfolding tagFits

@@ -1,8 +1,8 @@
 use mathlib.Core.Path.{sym, _∙_}
-use Rattle.wire_tag.specs.Tag.{tagAt, tagOf}
+use Rattle.wire_varint.specs.Tag.{tagAt, tagOf}
 use borrow.Author.Needs.{needs}
-use Rattle.wire_tag.proofs.tag_slow.Statement.{statement}
-use Rattle.wire_tag.proofs.tag_slow.Tie as tie
+use Rattle.wire_varint.proofs.tag.tag_slow.Statement.{statement}
+use Rattle.wire_varint.proofs.tag.tag_slow.Tie as tie
 
 varint-at-requires : tie.Need-varint-at-requires
 varint-at-requires c κs = search needs

@@ -1,10 +1,10 @@
 // Tags: field number and wire type.
+use crate::Varint;
+use crate::varint_at;
 use base_laws::wide;
-use wire_varint::Varint;
-use wire_varint::varint_at;
 ghost use mathlib.Core.Path.{_≡_};
-ghost use Rattle.wire_tag.specs.Tag.{tagFits, tagOf, tagAt};
+ghost use Rattle.wire_varint.specs.Tag.{tagFits, tagOf, tagAt};
 ghost use Rattle.wire_varint.specs.declared.Varint.the-variants.{Value};
 
 // A tag: a field number and a wire type, or refusal 2 or 4.
 pub enum Tag {

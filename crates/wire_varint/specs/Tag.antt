@@ -4,11 +4,11 @@ use mathlib.Core.List.{List}
 use mathlib.Core.Bool.{Bool, true}
 use lib.Dec.{leb, eqb}
 use Rattle.base_laws.specs.Base.{pick, both}
 use Rattle.wire_varint.specs.Varint.{varintAt}
 use Rattle.wire_varint.specs.declared.Varint.{Varint}
 use Rattle.wire_varint.specs.declared.Varint.the-variants.{Value, PastEnd, TooLong}
-use Rattle.wire_tag.specs.declared.Tag.{Tag}
-use Rattle.wire_tag.specs.declared.Tag.the-variants as tag
+use Rattle.wire_varint.specs.declared.tag.Tag.{Tag}
+use Rattle.wire_varint.specs.declared.tag.Tag.the-variants as tag
 
 -- Document 01: "A tag is a varint of at most 4,294,967,295; field number is tag / 8 and at least 1; wire types 0, 1, 2 and
 -- 5 are known, others refused."

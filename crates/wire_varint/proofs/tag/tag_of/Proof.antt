@@ -1,8 +1,8 @@
 use mathlib.Core.Path.{sym, _∙_}
-use Rattle.wire_tag.specs.Tag.{tagOf}
+use Rattle.wire_varint.specs.Tag.{tagOf}
 use borrow.Author.Needs.{needs}
-use Rattle.wire_tag.proofs.tag_of.Statement.{statement}
-use Rattle.wire_tag.proofs.tag_of.Tie as tie
+use Rattle.wire_varint.proofs.tag.tag_of.Statement.{statement}
+use Rattle.wire_varint.proofs.tag.tag_of.Tie as tie
 
 tag-fits-requires : tie.Need-tag-fits-requires
 tag-fits-requires c κs = search needs

@@ -1,9 +1,9 @@
 use mathlib.Core.Path.{sym}
-use Rattle.wire_tag.specs.Tag.{tagAt}
+use Rattle.wire_varint.specs.Tag.{tagAt}
 use Rattle.wire_varint.proofs.Varints.{one-byte}
 use borrow.Author.Needs.{needs}
-use Rattle.wire_tag.proofs.tag_at.Statement.{statement}
-use Rattle.wire_tag.proofs.tag_at.Tie as tie
+use Rattle.wire_varint.proofs.tag.tag_at.Statement.{statement}
+use Rattle.wire_varint.proofs.tag.tag_at.Tie as tie
 
 shared-slice-read-wide : tie.Need-shared-slice-read-wide
 shared-slice-read-wide c = search needs
