@@ -13,7 +13,7 @@ use Rattle.base_laws.proofs.Order.{lt-or-le}
 use Rattle.base_laws.proofs.Splice.{splice-next}
 use borrow.Author.Tests.{le-leb, lt-leb}
 use Rattle.base_copy.specs.Copy.{fits, copied}
-use Rattle.base_block.specs.Block.{blockStored}
+use Rattle.base_copy.specs.Block.{blockStored}
 
 -- a whole copy is a splice
 pub paste-splice : (d : List ℕ) (at : ℕ) (s : List ℕ) (n : ℕ) → n ≡ length s → paste d at s n ≡ splice d at s

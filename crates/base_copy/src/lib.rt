@@ -1,10 +1,12 @@
 // Copies of bytes into an area that the caller lends.
-use base_block::copy_block;
+pub mod block;
+
+use crate::block::copy_block;
 ghost use mathlib.Core.Path.{_≡_};
 ghost use Prim.Native.Nat.{_+_, _*_, _/_, _≤_};
 ghost use lib.ListN.{length, take};
 ghost use Rattle.base_laws.specs.Base.{splice};
-ghost use Rattle.base_block.specs.Block.{blockStored};
+ghost use Rattle.base_copy.specs.Block.{blockStored};
 ghost use Rattle.base_copy.specs.Copy.{fits, copied};
 
 // Bytes one after the other.

@@ -2,8 +2,8 @@ use mathlib.Core.Path.{ap, _∙_}
 use Prim.Native.Nat.{ℕ, _+_}
 use mathlib.Core.List.{List}
 use borrow.Author.Needs.{needs}
-use Rattle.base_block.specs.Block.{blockStored}
-use Rattle.base_block.proofs.Blocks.{block-on}
+use Rattle.base_copy.specs.Block.{blockStored}
+use Rattle.base_copy.proofs.Halves.{block-on}
 use Rattle.base_copy.proofs.copy_32.Statement.{statement}
 use Rattle.base_copy.proofs.copy_32.Tie as tie
 

@@ -3,7 +3,7 @@
 use Prim.Native.Nat.{ℕ, zero, suc, _+_}
 use mathlib.Core.List.{List}
 use lib.ListN.{set, getD}
-use Rattle.base_block.specs.declared.Half.{Half}
+use Rattle.base_copy.specs.declared.block.Half.{Half}
 
 -- an area with 1 + n bytes, from j on, at o, o + 1, .., each set by itself
 abbrev pub blockStored : List ℕ → ℕ → List ℕ → ℕ → ℕ → List ℕ

@@ -1,7 +1,7 @@
-use Rattle.base_block.proofs.Blocks.{two-halves}
+use Rattle.base_copy.proofs.Halves.{two-halves}
 use borrow.Author.Needs.{needs}
-use Rattle.base_block.proofs.copy_block.Statement.{statement}
-use Rattle.base_block.proofs.copy_block.Tie as tie
+use Rattle.base_copy.proofs.block.copy_block.Statement.{statement}
+use Rattle.base_copy.proofs.block.copy_block.Tie as tie
 
 load-half-requires : tie.Need-load-half-requires
 load-half-requires c κs = search needs

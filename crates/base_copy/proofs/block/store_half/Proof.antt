@@ -1,8 +1,8 @@
 use native.Mathlib.Omega.{arith}
 use lib.ListN.{length-set}
 use borrow.Author.Needs.{needs}
-use Rattle.base_block.proofs.store_half.Statement.{statement}
-use Rattle.base_block.proofs.store_half.Tie as tie
+use Rattle.base_copy.proofs.block.store_half.Statement.{statement}
+use Rattle.base_copy.proofs.block.store_half.Tie as tie
 
 slice-write-area : tie.Need-slice-write-area
 slice-write-area c = search needs

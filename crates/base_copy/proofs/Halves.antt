@@ -4,8 +4,8 @@ use Prim.Native.Nat.{ℕ, zero, suc, _+_}
 use native.Mathlib.Omega.{arith}
 use mathlib.Core.List.{List}
 use lib.ListN.{set, getD}
-use Rattle.base_block.specs.Block.{blockStored, halfAt, halfStored}
-use Rattle.base_block.specs.declared.Half.{Half}
+use Rattle.base_copy.specs.Block.{blockStored, halfAt, halfStored}
+use Rattle.base_copy.specs.declared.block.Half.{Half}
 
 -- a block behind a block is one block
 pub block-on : (area : List ℕ) (o : ℕ) (s : List ℕ) (j n k : ℕ) → blockStored (blockStored area o s j n) (o + suc n) s (j + suc n) k ≡ blockStored area o s j (suc n + k)

@@ -1,8 +1,8 @@
-// The store of a block. It is the copies' own: `buffer` shows that there is room for it.
+// The store of a block. `copy_32` and its like show that there is room for it.
 ghost use mathlib.Core.Path.{_≡_};
 ghost use Prim.Native.Nat.{_+_, _≤_};
 ghost use lib.ListN.{length};
-ghost use Rattle.base_block.specs.Block.{blockStored, halfAt, halfStored};
+ghost use Rattle.base_copy.specs.Block.{blockStored, halfAt, halfStored};
 
 // Half a block. The proof of a straight line grows faster than the line: all 16 bytes in a row take ten times as long to check as
 // two halves, and compile to the same code.
