@@ -9,7 +9,7 @@ use lib.Dec.{eqb, lit≤}
 use borrow.Author.Tests.{le-leb, ne-eqb, eqb-true}
 use Rattle.base_laws.specs.Base.{pick, part}
 use Rattle.base_laws.proofs.Order.{both-true}
-use Rattle.wire_fast_entry.specs.Entry.{Holds}
+use Rattle.wire_check.specs.Entry.{Holds}
 use Rattle.wire_fields.specs.Items.{bytes, itemOf, items}
 use Rattle.wire_fields.specs.declared.Field.{Field}
 use Rattle.wire_message.specs.Message.{Bytes, Value, absent, numval, strval, strlistval, numlistval, Entry, entry}

@@ -21,7 +21,7 @@ use Rattle.wire_fields.specs.Items.{Item, itemOf, items, lastFrom, lastItem, by
 use Rattle.wire_fields.specs.declared.Field.{Field}
 use Rattle.wire_fields.proofs.Reach.{PayloadRead, payload-at}
 use Rattle.wire_fields.proofs.Follow.{follow, none}
-use Rattle.wire_fast_entry.proofs.Entries.{tagged}
+use Rattle.wire_check.proofs.Entries.{tagged}
 use Rattle.wire_elements.specs.Elements.{itemsAt}
 use Rattle.wire_message.specs.Signed.{signed, int32, bool}
 use Rattle.wire_message.specs.Message.{Bytes, Entry, timeSpec, timeField, entry, entries, accept}

@@ -2,8 +2,8 @@
 // required entry a string. This is a short way. An accept in another form, one that is to be refused too, takes the general one.
 use base_laws::wide;
 use session_entries::same;
-use wire_fast_entry::Plain;
-use wire_fast_entry::plain_entry;
+use wire_check::entry::Plain;
+use wire_check::entry::plain_entry;
 use wire_fields::Found;
 use wire_fields::part_found;
 use wire_message::time_spec_in;

@@ -1,8 +1,10 @@
 // The check of any message, by the one schema.
+pub mod entry;
+
+use crate::entry::sound_entry;
 use wire_check_field::Checked;
 use wire_check_field::Step;
 use wire_check_field::step_at;
-use wire_fast_entry::sound_entry;
 ghost use mathlib.Core.Path.{_≡_};
 ghost use Rattle.wire_check_field.specs.Check.{checkOf};
 

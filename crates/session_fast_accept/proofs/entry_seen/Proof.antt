@@ -1,5 +1,5 @@
 use mathlib.Core.Path.{refl, subst}
-use Rattle.wire_fast_entry.specs.Entry.{Formed}
+use Rattle.wire_check.specs.Entry.{Formed}
 use Rattle.wire_fields.specs.Fields.{among}
 use Rattle.wire_fields.specs.Items.{lastFrom, bytesOf}
 use Rattle.wire_message.specs.Message.{entry, valueOf}

@@ -19,7 +19,7 @@ use Rattle.wire_check.proofs.check.Reads as check
 use Rattle.wire_check.proofs.check.Kinds as check-kinds
 use Rattle.wire_check.proofs.+check.Lts-check as check-lts
 use Rattle.wire_check_field.proofs.step_at.Reads as step-at-reads
-use Rattle.wire_fast_entry.proofs.sound_entry.Reads as sound-entry-reads
+use Rattle.wire_check.proofs.entry.sound_entry.Reads as sound-entry-reads
 use Rattle.wire_check.proofs.+check.{statement}
 use Rattle.wire_check.proofs.+check.Tie.{close}
 

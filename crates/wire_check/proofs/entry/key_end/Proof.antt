@@ -1,11 +1,11 @@
 use native.Mathlib.Omega.{arith}
 use mathlib.Core.Path.{sym}
 use borrow.Author.Tests.{eq-eqb, ne-eqb, lt-ltb, le-ltb}
-use Rattle.wire_fast_entry.specs.Entry.{keyEnd}
+use Rattle.wire_check.specs.Entry.{keyEnd}
 use borrow.Author.Needs.{needs}
-use Rattle.wire_fast_entry.proofs.Entries.{no-value}
-use Rattle.wire_fast_entry.proofs.key_end.Statement.{statement}
-use Rattle.wire_fast_entry.proofs.key_end.Tie as tie
+use Rattle.wire_check.proofs.Entries.{no-value}
+use Rattle.wire_check.proofs.entry.key_end.Statement.{statement}
+use Rattle.wire_check.proofs.entry.key_end.Tie as tie
 
 returns : tie.Need-returns
 returns c = no-value _ (omega arith)

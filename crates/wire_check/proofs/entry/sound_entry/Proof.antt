@@ -1,9 +1,9 @@
 use mathlib.Core.Path.{subst}
-use Rattle.wire_fast_entry.specs.Entry.{Formed}
-use Rattle.wire_fast_entry.proofs.Entries.{unsaid}
+use Rattle.wire_check.specs.Entry.{Formed}
+use Rattle.wire_check.proofs.Entries.{unsaid}
 use borrow.Author.Needs.{needs}
-use Rattle.wire_fast_entry.proofs.sound_entry.Statement.{statement}
-use Rattle.wire_fast_entry.proofs.sound_entry.Tie as tie
+use Rattle.wire_check.proofs.entry.sound_entry.Statement.{statement}
+use Rattle.wire_check.proofs.entry.sound_entry.Tie as tie
 
 plain-entry-requires : tie.Need-plain-entry-requires
 plain-entry-requires c κs = search needs

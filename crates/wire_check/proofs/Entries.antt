@@ -16,7 +16,7 @@ use Rattle.wire_value.specs.Field.{numberOf, partOf, payloadAt}
 use Rattle.wire_varint.specs.Tag.{tagFits, tagOf, tagAt}
 use Rattle.wire_check_field.specs.Check.{stepOf, stepAt, checkAt, checkOf}
 use Rattle.wire_fields.specs.Fields.{fieldOf, fieldAt, onField, fieldsAt}
-use Rattle.wire_fast_entry.specs.Entry.{keyEnd, Holds, Reaches, Formed}
+use Rattle.wire_check.specs.Entry.{keyEnd, Holds, Reaches, Formed}
 use Rattle.wire_varint.specs.declared.Varint.the-variants.{Value}
 use Rattle.wire_varint.specs.declared.tag.Tag.the-variants as tag
 use Rattle.wire_value.specs.declared.Payload.the-variants as payload
@@ -25,7 +25,7 @@ use Rattle.wire_check_field.specs.declared.Checked.{Checked}
 use Rattle.wire_check_field.specs.declared.Checked.the-variants as checked
 use Rattle.wire_fields.specs.declared.Field.{Field}
 use Rattle.wire_fields.specs.declared.Field.the-variants as field
-use Rattle.wire_fast_entry.specs.declared.Plain.the-variants as plain
+use Rattle.wire_check.specs.declared.entry.Plain.the-variants as plain
 use Rattle.wire_varint.proofs.Varints.{one-byte}
 use Rattle.wire_check_field.proofs.Checks.{at-end}
 use Rattle.wire_fields.proofs.Follow.{FieldRead, field-read, follow, none}

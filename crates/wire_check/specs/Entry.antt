@@ -1,7 +1,7 @@
 -- The form in which clients send an entry (an InfoMessage): the key, then one value, and nothing else. It has a short way.
 -- These are inner definitions: they follow the code, and no sentence of document 01. An auditor can skip them, since the contract of
 -- `check` (crates/wire_check/src/lib.rt) is the general `checkOf` (crates/wire_check_field/specs/Check.antt). What proves them against it:
--- crates/wire_fast_entry/proofs/Entries.antt: `key-there`, `numbered`, `text`, `texts`, `numbers`.
+-- crates/wire_check/proofs/Entries.antt: `key-there`, `numbered`, `text`, `texts`, `numbers`.
 use Prim.Native.Nat.{ℕ, _+_, _≤_}
 use mathlib.Core.Path.{_≡_}
 use mathlib.Core.List.{List, [], _∷_}
@@ -14,8 +14,8 @@ use Rattle.wire_fields.specs.Fields.{fieldsOf}
 use Rattle.wire_check_field.specs.declared.Checked.the-variants.{Fine}
 use Rattle.wire_fields.specs.declared.Field.{Field}
 use Rattle.wire_fields.specs.declared.Field.the-variants as field
-use Rattle.wire_fast_entry.specs.declared.Plain.{Plain}
-use Rattle.wire_fast_entry.specs.declared.Plain.the-variants as plain
+use Rattle.wire_check.specs.declared.entry.Plain.{Plain}
+use Rattle.wire_check.specs.declared.entry.Plain.the-variants as plain
 
 -- the entry's fields are its key, from 2 to k, and the value v
 pub record Holds (s : List ℕ) (k : ℕ) (v : Field) : Type 0 where

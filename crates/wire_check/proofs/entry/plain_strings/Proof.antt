@@ -7,9 +7,9 @@ use Rattle.wire_schema.specs.Schema.{StringList}
 use Rattle.wire_check_field.specs.Check.{checkAt, checkOf}
 use Rattle.wire_fields.proofs.Lengths.{found-part}
 use Rattle.wire_check_field.proofs.Checks.{at-end}
-use Rattle.wire_fast_entry.proofs.Entries.{Passed, passed, unsaid}
-use Rattle.wire_fast_entry.proofs.plain_strings.Statement.{statement}
-use Rattle.wire_fast_entry.proofs.plain_strings.Tie as tie
+use Rattle.wire_check.proofs.Entries.{Passed, passed, unsaid}
+use Rattle.wire_check.proofs.entry.plain_strings.Statement.{statement}
+use Rattle.wire_check.proofs.entry.plain_strings.Tie as tie
 
 abbrev Inv-loop : tie.InvT-loop
 Inv-loop s at₀ at = (at ≤ length s) × (checkAt StringList s at ≡ checkOf StringList s)

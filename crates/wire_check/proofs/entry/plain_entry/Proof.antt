@@ -1,11 +1,11 @@
 use native.Mathlib.Omega.{arith}
 use mathlib.Core.Path.{sym, _∙_}
-use Rattle.wire_fast_entry.specs.Entry.{Formed}
+use Rattle.wire_check.specs.Entry.{Formed}
 use Rattle.wire_fields.proofs.Lengths.{found-part}
-use Rattle.wire_fast_entry.proofs.Entries.{key-there, numbered, text, texts, numbers}
+use Rattle.wire_check.proofs.Entries.{key-there, numbered, text, texts, numbers}
 use borrow.Author.Needs.{needs}
-use Rattle.wire_fast_entry.proofs.plain_entry.Statement.{statement}
-use Rattle.wire_fast_entry.proofs.plain_entry.Tie as tie
+use Rattle.wire_check.proofs.entry.plain_entry.Statement.{statement}
+use Rattle.wire_check.proofs.entry.plain_entry.Tie as tie
 
 key-end-requires : tie.Need-key-end-requires
 key-end-requires c κs = search needs

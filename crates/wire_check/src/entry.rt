@@ -9,7 +9,7 @@ ghost use mathlib.Core.Path.{_≡_};
 ghost use mathlib.Core.Bool.{true};
 ghost use Rattle.wire_schema.specs.Schema.{InfoMessage, StringList};
 ghost use Rattle.wire_check_field.specs.Check.{checkOf};
-ghost use Rattle.wire_fast_entry.specs.Entry.{keyEnd, Formed};
+ghost use Rattle.wire_check.specs.Entry.{keyEnd, Formed};
 ghost use Rattle.wire_check_field.specs.declared.Checked.the-variants.{Fine};
 
 // An entry's key ends at `key`; a value's bytes go from `start` to the end.
