@@ -11,7 +11,7 @@ use borrow.Author.Tests.{lt-ltb, le-leb}
 use Rattle.base_laws.specs.Base.{pick}
 use Rattle.wire_message.specs.Signed.{signed, int64, int32}
 use Rattle.wire_message.specs.Message.{Bytes, Restart}
-use Rattle.wire_limits.specs.Limits.{upTo, sized, dateFits, momentFits}
+use Rattle.wire_range.specs.Limits.{upTo, sized, dateFits, momentFits}
 use Rattle.wire_range.specs.Range.{restartFits}
 use Rattle.wire.specs.Read.{value, clientMessage}
 use Rattle.write_forms.specs.Pieces.{Piece, some, bytes, text, varint, varintFrom, head, encode, encodeAll}

@@ -13,7 +13,7 @@ use Rattle.base_laws.specs.Base.{pick, both}
 use Rattle.base_laws.proofs.Order.{both-true}
 use Rattle.wire_message.specs.Message.{Bytes, TimeSpec, Timed, WindowSize, Exit}
 use Rattle.wire_range.specs.Range as g
-use Rattle.wire_limits.specs.Limits.{upTo, sized, momentFits}
+use Rattle.wire_range.specs.Limits.{upTo, sized, momentFits}
 use Rattle.wire_range.specs.Range.{ioFits, suspendFits}
 use Rattle.file_format.specs.Digits.{digits, value}
 use Rattle.file_format.specs.Record.{second, Record, windowBytes, exitBytes, isTimed, timedFits, exitDataFits}

@@ -9,8 +9,8 @@ use borrow.Author.Tests.{leb-true, le-leb, lt-ltb}
 use Rattle.base_laws.proofs.Order.{both-true}
 use Rattle.wire_message.specs.Signed.{signed, int64, int32}
 use Rattle.wire_message.specs.Message.{Bytes}
-use Rattle.wire_limits.specs.Limits as l
-use Rattle.wire_limits.specs.Limits.{upTo}
+use Rattle.wire_range.specs.Limits as l
+use Rattle.wire_range.specs.Limits.{upTo}
 use Rattle.write_forms.specs.Draft.{Stamp, stampValue}
 use Rattle.write_forms.specs.RoundTrip.{Stamped, Narrow}
 use Rattle.write_range.specs.Fits.{dateFits, momentFits, sized}

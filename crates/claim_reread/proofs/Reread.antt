@@ -23,7 +23,7 @@ use Rattle.wire_fields.specs.Items.{Item, items, lastFrom, lastItem}
 use Rattle.wire_message.specs.Signed.{int32}
 use Rattle.wire_message.specs.Message as m
 use Rattle.wire_message.specs.Message.{Bytes, clientMember}
-use Rattle.wire_limits.specs.Limits as l
+use Rattle.wire_range.specs.Limits as l
 use Rattle.wire_range.specs.Range as g
 use Rattle.wire_range.specs.Range.{bodyFits, clientFits, serverFits, inRange}
 use Rattle.wire.specs.Read.{Reading, value, after, clientMessage, serverMessage, checkNumber, isAbsent, noMember, readNumber}

@@ -13,7 +13,7 @@ use Rattle.wire_check.specs.Entry.{Holds}
 use Rattle.wire_fields.specs.Items.{bytes, itemOf, items}
 use Rattle.wire_fields.specs.declared.Field.{Field}
 use Rattle.wire_message.specs.Message.{Bytes, Value, absent, numval, strval, strlistval, numlistval, Entry, entry}
-use Rattle.wire_limits.specs.Limits.{isSet, entryFits}
+use Rattle.wire_range.specs.Limits.{isSet, entryFits}
 use Rattle.session_entries.specs.Required.{sameBytes, keyBytes, stringOrNone}
 use Rattle.session_fast_accept.specs.Summary.{keyNumber, withKey, allMet, isMet, isString, EntrySeen, KeySeen}
 use Rattle.session_fast_accept.specs.declared.Keys.{Keys}

@@ -25,7 +25,7 @@ use Rattle.wire_check.proofs.Entries.{tagged}
 use Rattle.wire_elements.specs.Elements.{itemsAt}
 use Rattle.wire_message.specs.Signed.{signed, int32, bool}
 use Rattle.wire_message.specs.Message.{Bytes, Entry, timeSpec, timeField, entry, entries, accept}
-use Rattle.wire_limits.specs.Limits.{upTo, dateFits, entriesFit}
+use Rattle.wire_range.specs.Limits.{upTo, dateFits, entriesFit}
 use Rattle.wire_range.specs.Range.{acceptFits, bodyFits}
 use Rattle.session_entries.specs.Required.{sameBytes, keyBytes, lastValue, stringOrNone, typesFrom, has, missingFrom, entriesRefusal}
 use Rattle.session_fast_accept.specs.Summary.{isMet, Passed, EntrySeen, Summarised}

@@ -12,7 +12,7 @@ use Rattle.base_laws.specs.Base.{pick, both}
 use Rattle.wire_schema.specs.Schema.{AcceptMessage}
 use Rattle.wire_fields.specs.Items.{items}
 use Rattle.wire_message.specs.Message.{Bytes, Value, absent, numval, strval, strlistval, numlistval, Entry, entries, accept}
-use Rattle.wire_limits.specs.Limits.{entryFits}
+use Rattle.wire_range.specs.Limits.{entryFits}
 use Rattle.wire_range.specs.Range.{bodyFits}
 use Rattle.session_entries.specs.Required.{sameBytes, keyBytes, stringOrNone, entriesRefusal}
 use Rattle.session_fast_accept.specs.declared.Keys.{Keys}

@@ -15,7 +15,7 @@ ghost use lib.ListN.{length};
 ghost use Rattle.base_laws.specs.Base.{part};
 ghost use Rattle.wire_fields.specs.Items.{items};
 ghost use Rattle.wire_message.specs.Message as m;
-ghost use Rattle.wire_limits.specs.Limits.{dateFits, isSet};
+ghost use Rattle.wire_range.specs.Limits.{dateFits, isSet};
 ghost use Rattle.session_fast_accept.specs.Summary.{keyNumber, withKey, allMet, isString, EntrySeen, KeySeen, Summarised};
 
 // The required keys that entries had so far.

@@ -8,7 +8,7 @@ use Rattle.base_laws.specs.Base.{pick, both}
 use Rattle.wire_schema.specs.Schema.{kindOf, message, ClientMessage, AcceptMessage, RejectMessage, ExitMessage, RestartMessage, AlertMessage, IoBuffer, ChangeWindowSize, CommandSuspend, InfoMessage, ServerMessage}
 use Rattle.wire_fields.specs.Items.{Item, none, number, bytes, items, lastItem}
 use Rattle.wire_message.specs.Message.{Accept, Report, Exit, Restart, Timed, WindowSize, timeSpec, entry, accept, report, exit, restart, timed, windowSize}
-use Rattle.wire_limits.specs.Limits.{upTo, sized, dateFits, momentFits, entryFits, entriesFit}
+use Rattle.wire_range.specs.Limits.{upTo, sized, dateFits, momentFits, entryFits, entriesFit}
 
 unfoldable pub acceptFits : Accept → Bool
 acceptFits a = both (dateFits (a .submitTime)) (entriesFit (a .infoMsgs))

@@ -1,13 +1,15 @@
 // The ranges of document 01's table: of each message.
+pub mod limits;
+
+use crate::limits::date_in;
+use crate::limits::entries_fit;
+use crate::limits::entry_fits;
+use crate::limits::length_in;
+use crate::limits::moment_fits;
+use crate::limits::moment_in;
+use crate::limits::number_fits;
 use wire_fields::Last;
 use wire_fields::last_in;
-use wire_limits::date_in;
-use wire_limits::entries_fit;
-use wire_limits::entry_fits;
-use wire_limits::length_in;
-use wire_limits::moment_fits;
-use wire_limits::moment_in;
-use wire_limits::number_fits;
 use wire_message::time_spec_in;
 use wire_schema::kind_of;
 ghost use mathlib.Core.Path.{_≡_};

@@ -28,7 +28,7 @@ use Rattle.wire_check_field.specs.declared.Checked.{Checked}
 use Rattle.wire_check_field.specs.declared.Checked.the-variants as checked
 use Rattle.wire_message.specs.Message as m
 use Rattle.wire_message.specs.Message.{Bytes, entry, entries}
-use Rattle.wire_limits.specs.Limits.{isSet, entryFits, entriesFit}
+use Rattle.wire_range.specs.Limits.{isSet, entryFits, entriesFit}
 use Rattle.wire.specs.Read.{checkNumber}
 use Rattle.wire_check_field.proofs.Numbered.{TagTold, Told, CheckTold, tag-told, payload-told, before-told, check-told}
 use Rattle.write_forms.specs.Draft.{EntryDraft, numval, strval, strlistval, numlistval, meantValue}

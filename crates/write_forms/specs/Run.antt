@@ -18,7 +18,7 @@ use Rattle.wire_value.specs.declared.Payload.the-variants as payload
 use Rattle.wire_check_field.specs.declared.Checked.{Checked}
 use Rattle.wire_check_field.specs.declared.Checked.the-variants as checked
 use Rattle.wire_message.specs.Message.{entries}
-use Rattle.wire_limits.specs.Limits.{entriesFit}
+use Rattle.wire_range.specs.Limits.{entriesFit}
 use Rattle.wire.specs.Read.{checkNumber}
 
 -- the value of an entry, by its tag: another field is 4, another wire type 5, both at the tag

@@ -1,7 +1,7 @@
 // A run of entries, read before it is written: tagged `info_msgs` fields of the message and nothing else.
 use wire_check::check;
 use wire_check_field::Checked;
-use wire_limits::entries_fit;
+use wire_range::limits::entries_fit;
 use wire_value::Payload;
 use wire_value::payload_at;
 use wire_varint::tag::Tag;

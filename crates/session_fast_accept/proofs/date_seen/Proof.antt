@@ -4,8 +4,8 @@ use lib.Dec.{lit≤}
 use Rattle.wire_message.specs.Message.{TimeSpec}
 use Rattle.wire_message.specs.Places.{timeValue}
 use Rattle.wire_message.specs.Signed.{int32}
-use Rattle.wire_limits.specs.Limits.{dateFits}
-use Rattle.wire_limits.proofs.Signs.{up-to}
+use Rattle.wire_range.specs.Limits.{dateFits}
+use Rattle.wire_range.proofs.Signs.{up-to}
 use borrow.Author.Needs.{needs}
 use Rattle.session_fast_accept.proofs.date_seen.Statement.{statement}
 use Rattle.session_fast_accept.proofs.date_seen.Tie as tie

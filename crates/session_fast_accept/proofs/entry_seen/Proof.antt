@@ -3,7 +3,7 @@ use Rattle.wire_check.specs.Entry.{Formed}
 use Rattle.wire_fields.specs.Fields.{among}
 use Rattle.wire_fields.specs.Items.{lastFrom, bytesOf}
 use Rattle.wire_message.specs.Message.{entry, valueOf}
-use Rattle.wire_limits.specs.Limits.{isSet}
+use Rattle.wire_range.specs.Limits.{isSet}
 use Rattle.session_fast_accept.specs.Summary.{isString, EntrySeen}
 use Rattle.session_fast_accept.proofs.KeyLaws.{by-value}
 use borrow.Author.Needs.{needs}

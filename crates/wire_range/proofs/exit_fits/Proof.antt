@@ -1,5 +1,5 @@
 use Rattle.wire_range.specs.Range.{exitFits}
-use Rattle.wire_limits.specs.Limits.{sized}
+use Rattle.wire_range.specs.Limits.{sized}
 use Rattle.wire_message.specs.Message.{exit}
 use lib.Dec.{leb·zero}
 use mathlib.Core.Path.{sym, _∙_}

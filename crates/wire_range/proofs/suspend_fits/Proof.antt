@@ -1,5 +1,5 @@
 use Rattle.wire_range.specs.Range.{suspendFits}
-use Rattle.wire_limits.specs.Limits.{sized}
+use Rattle.wire_range.specs.Limits.{sized}
 use Rattle.wire_message.specs.Message.{timed}
 use borrow.Author.Tests.{le-leb, lt-leb}
 use mathlib.Core.Path.{sym, _∙_}

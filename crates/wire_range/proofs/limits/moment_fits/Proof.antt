@@ -1,12 +1,12 @@
-use Rattle.wire_limits.proofs.Signs.{up-to}
-use Rattle.wire_limits.specs.Limits.{momentFits}
+use Rattle.wire_range.proofs.Signs.{up-to}
+use Rattle.wire_range.specs.Limits.{momentFits}
 use Rattle.wire_message.specs.Places.{timeValue}
 use Rattle.wire_message.specs.Signed.{int64}
 use borrow.Author.Tests.{le-leb, lt-leb}
 use lib.Dec.{lit≤}
 use borrow.Author.Needs.{needs}
-use Rattle.wire_limits.proofs.moment_fits.Statement.{statement}
-use Rattle.wire_limits.proofs.moment_fits.Tie as tie
+use Rattle.wire_range.proofs.limits.moment_fits.Statement.{statement}
+use Rattle.wire_range.proofs.limits.moment_fits.Tie as tie
 
 date-fits-requires : tie.Need-date-fits-requires
 date-fits-requires c κs = search needs

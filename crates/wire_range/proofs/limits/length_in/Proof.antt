@@ -3,8 +3,8 @@ use Rattle.wire_fields.proofs.Items.{bytes-means}
 use Rattle.base_laws.proofs.Parts.{length-part}
 use mathlib.Core.Path.{sym}
 use borrow.Author.Needs.{needs}
-use Rattle.wire_limits.proofs.length_in.Statement.{statement}
-use Rattle.wire_limits.proofs.length_in.Tie as tie
+use Rattle.wire_range.proofs.limits.length_in.Statement.{statement}
+use Rattle.wire_range.proofs.limits.length_in.Tie as tie
 
 part-in-requires : tie.Need-part-in-requires
 part-in-requires c κs = search needs

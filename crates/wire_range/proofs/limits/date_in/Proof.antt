@@ -1,8 +1,8 @@
 use Rattle.wire_message.proofs.Meaning.{time-means}
 use mathlib.Core.Path.{_∙_}
 use borrow.Author.Needs.{needs}
-use Rattle.wire_limits.proofs.date_in.Statement.{statement}
-use Rattle.wire_limits.proofs.date_in.Tie as tie
+use Rattle.wire_range.proofs.limits.date_in.Statement.{statement}
+use Rattle.wire_range.proofs.limits.date_in.Tie as tie
 
 time-in-requires : tie.Need-time-in-requires
 time-in-requires c κs = search needs

@@ -1,8 +1,8 @@
-use Rattle.wire_limits.specs.Limits.{isSet}
+use Rattle.wire_range.specs.Limits.{isSet}
 use Rattle.wire_message.specs.Places.{valueAt}
 use borrow.Author.Needs.{needs}
-use Rattle.wire_limits.proofs.value_is_set.Statement.{statement}
-use Rattle.wire_limits.proofs.value_is_set.Tie as tie
+use Rattle.wire_range.proofs.limits.value_is_set.Statement.{statement}
+use Rattle.wire_range.proofs.limits.value_is_set.Tie as tie
 
 value-in-requires : tie.Need-value-in-requires
 value-in-requires c κs = search needs

@@ -8,7 +8,7 @@ use lib.Dec.{ltb, leb}
 use borrow.Author.Tests.{ltb-false, lt-leb}
 use Rattle.base_laws.specs.Base.{pick}
 use Rattle.wire_message.specs.Signed.{signed}
-use Rattle.wire_limits.specs.Limits.{upTo}
+use Rattle.wire_range.specs.Limits.{upTo}
 
 -- for every width: where the range ends below the first negative number, the bits are compared as they are
 pub up-to : (most half v : ℕ) → most < half → upTo most (signed half v) ≡ leb v most

@@ -1,11 +1,11 @@
-use Rattle.wire_limits.proofs.Signs.{up-to}
+use Rattle.wire_range.proofs.Signs.{up-to}
 use Rattle.wire_fields.proofs.Items.{number-means}
 use Rattle.wire_message.specs.Signed.{int32}
 use Prim.Native.Nat.{_%_}
 use mathlib.Core.Path.{sym}
 use borrow.Author.Needs.{needs}
-use Rattle.wire_limits.proofs.number_fits.Statement.{statement}
-use Rattle.wire_limits.proofs.number_fits.Tie as tie
+use Rattle.wire_range.proofs.limits.number_fits.Statement.{statement}
+use Rattle.wire_range.proofs.limits.number_fits.Tie as tie
 
 number-in-requires : tie.Need-number-in-requires
 number-in-requires c κs = search needs

@@ -1,9 +1,9 @@
-use Rattle.wire_limits.specs.Limits.{entryFits}
+use Rattle.wire_range.specs.Limits.{entryFits}
 use Rattle.wire_message.specs.Message.{entry}
 use borrow.Author.Tests.{le-leb, lt-leb}
 use borrow.Author.Needs.{needs}
-use Rattle.wire_limits.proofs.entry_fits.Statement.{statement}
-use Rattle.wire_limits.proofs.entry_fits.Tie as tie
+use Rattle.wire_range.proofs.limits.entry_fits.Statement.{statement}
+use Rattle.wire_range.proofs.limits.entry_fits.Tie as tie
 
 length-in-requires : tie.Need-length-in-requires
 length-in-requires c κs = search needs

@@ -1,12 +1,12 @@
-use Rattle.wire_limits.proofs.Signs.{up-to}
-use Rattle.wire_limits.specs.Limits.{dateFits}
+use Rattle.wire_range.proofs.Signs.{up-to}
+use Rattle.wire_range.specs.Limits.{dateFits}
 use Rattle.wire_message.specs.Places.{timeValue}
 use Rattle.wire_message.specs.Signed.{int32}
 use Prim.Native.Nat.{_%_}
 use lib.Dec.{lit≤}
 use mathlib.Core.Path.{sym}
-use Rattle.wire_limits.proofs.date_fits.Statement.{statement}
-use Rattle.wire_limits.proofs.date_fits.Tie as tie
+use Rattle.wire_range.proofs.limits.date_fits.Statement.{statement}
+use Rattle.wire_range.proofs.limits.date_fits.Tie as tie
 
 returns : tie.Need-returns
 unfolding dateFits timeValue int32

@@ -14,7 +14,7 @@ ghost use Rattle.wire_fields.specs.Items.{items, lastItem};
 ghost use Rattle.wire_message.specs.Signed.{int32};
 ghost use Rattle.wire_message.specs.Message as m;
 ghost use Rattle.wire_message.specs.Places.{timeValue};
-ghost use Rattle.wire_limits.specs.Limits.{upTo, dateFits, momentFits, isSet, entryFits, entriesFit};
+ghost use Rattle.wire_range.specs.Limits.{upTo, dateFits, momentFits, isSet, entryFits, entriesFit};
 
 // A submit_time or an alert_time: the nanoseconds alone have a range. An int32 is its number's low 32 bits.
 fn date_fits(t: Time) -> bool

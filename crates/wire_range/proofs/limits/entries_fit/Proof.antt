@@ -1,4 +1,4 @@
-use Rattle.wire_limits.specs.Limits.{entriesFit}
+use Rattle.wire_range.specs.Limits.{entriesFit}
 use Rattle.wire_message.specs.Message.{Bytes, entry, entries}
 use Rattle.wire_elements.proofs.Elements.{all-elements, found-none, found-part, found-lies}
 use Rattle.wire_elements.specs.Elements.{elementsAt}
@@ -9,8 +9,8 @@ use Prim.Native.Nat.{_-_}
 use borrow.Author.Needs.{needs}
 use native.Mathlib.Omega.{arith}
 use mathlib.Core.Path.{_≡_, sym, _∙_}
-use Rattle.wire_limits.proofs.entries_fit.Statement.{statement}
-use Rattle.wire_limits.proofs.entries_fit.Tie as tie
+use Rattle.wire_range.proofs.limits.entries_fit.Statement.{statement}
+use Rattle.wire_range.proofs.limits.entries_fit.Tie as tie
 
 abbrev Inv-loop : tie.InvT-loop
 Inv-loop s number at₀ at = entriesFit (map (λ (d : Bytes). entry (items d)) (elementsAt number s at)) ≡ entriesFit (entries number (items s))
