@@ -13,7 +13,7 @@ use Rattle.wire_range.specs.Limits as l
 use Rattle.wire_range.specs.Limits.{upTo}
 use Rattle.write_forms.specs.Draft.{Stamp, stampValue}
 use Rattle.write_forms.specs.RoundTrip.{Stamped, Narrow}
-use Rattle.write_range.specs.Fits.{dateFits, momentFits, sized}
+use Rattle.write_message.specs.Fits.{dateFits, momentFits, sized}
 
 pub in-64 : (hi v : ℕ) → v ≤ hi → hi < 2 ^ 63 → upTo hi (int64 v) ≡ true
 unfolding upTo int64 signed

@@ -35,8 +35,8 @@ use Rattle.write_forms.specs.RoundTrip.{pieceItems, Numbered, Short, ReadsAs, C
 use Rattle.write_forms.proofs.RoundTrip.{io-kind, number-of, wrapped-is, round-trip}
 use Rattle.write_forms.proofs.Refusals.{no-refusal, value-set}
 use Rattle.write_forms.proofs.Embedded as back
-use Rattle.write_range.specs.Fits as w
-use Rattle.write_range.specs.Fits.{memberIn, dateFits, momentFits, sized}
+use Rattle.write_message.specs.Fits as w
+use Rattle.write_message.specs.Fits.{memberIn, dateFits, momentFits, sized}
 use Rattle.claim_reread.specs.Reread.{Taken, runOf, valuesFit, TakenClient, Given, ClientAgain, ServerAgain, BodyAgain, RunAgain, Reread}
 use Rattle.claim_reread.proofs.Ranges.{in-32, date-in, date-narrow, moment-in, moment-narrow, stamped, sized-in}
 

@@ -20,7 +20,7 @@ use Rattle.write_forms.specs.Draft.{Stamp, stampValue, timePieces, serverHelloP
 use Rattle.write_forms.specs.Run.{runRefusal}
 use Rattle.write_forms.specs.Outcome.{refusal, size, buffer}
 use Rattle.write_forms.specs.RoundTrip.{AllFit, Stamped, EntryParts, WritableClient, NarrowClient, NarrowServer}
-use Rattle.write_range.specs.Fits.{clientHelloFits, acceptFits, reportFits, exitFits, restartFits, ioFits, windowFits, suspendFits, endsFit, serverHelloFits, timeFits, noteFits, entryFits, entryStringsFits}
+use Rattle.write_message.specs.Fits.{clientHelloFits, acceptFits, reportFits, exitFits, restartFits, ioFits, windowFits, suspendFits, endsFit, serverHelloFits, timeFits, noteFits, entryFits, entryStringsFits}
 
 -- ---- what is taken
 

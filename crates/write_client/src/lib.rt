@@ -3,16 +3,16 @@
 // `framed` (with the four bytes of a frame before it) and the buffer, from whose start it writes; it answers document 01's
 // refusal, 0 for none, and how many bytes it wrote. On a refusal nothing is written. `member` is the field number of the message
 // around it, in which it is written, or 0 to write it by itself; any other number is refused with 7.
-use write_fields::listed;
-use write_fields::timed;
+use write_message::fits::both;
+use write_message::fits::date_fits;
+use write_message::fits::flag;
+use write_message::fits::member_in;
+use write_message::fits::moment_fits;
+use write_message::fits::sized;
+use write_message::form::listed;
+use write_message::form::timed;
 use write_message::outcome::Wrote;
 use write_message::write::write_plain;
-use write_range::both;
-use write_range::date_fits;
-use write_range::flag;
-use write_range::member_in;
-use write_range::moment_fits;
-use write_range::sized;
 use write_run::run_refusal;
 ghost use mathlib.Core.Path.{_≡_};
 ghost use lib.ListN.{length};
@@ -20,7 +20,7 @@ ghost use Rattle.write_forms.specs.Draft.{acceptPieces, reportPieces, restartPi
 ghost use Rattle.write_forms.specs.Run.{runRefusal};
 ghost use Rattle.write_forms.specs.Outcome.{buffer};
 ghost use Rattle.write_pieces.specs.Put.{stamp};
-ghost use Rattle.write_range.specs.Fits.{clientHelloFits, acceptFits, reportMember, reportFits, restartFits};
+ghost use Rattle.write_message.specs.Fits.{clientHelloFits, acceptFits, reportMember, reportFits, restartFits};
 ghost use Rattle.write_message.specs.Wrote.{wrote};
 
 // A ClientHello, member 13.

@@ -1,18 +1,18 @@
 // Entries. An entry is written by itself, or tagged as in the run of an AcceptMessage (member 2), a RejectMessage or
 // an AlertMessage (member 3): runs are tagged entries one after the other. Lists of strings are lent as joined bytes and ends.
-use write_fields::listed;
-use write_fields::numbered;
 use write_lists::ends_fit;
+use write_message::fits::both;
+use write_message::fits::member_in;
+use write_message::form::listed;
+use write_message::form::numbered;
 use write_message::outcome::Wrote;
 use write_message::write::write_message;
 use write_message::write::write_plain;
-use write_range::both;
-use write_range::member_in;
 ghost use mathlib.Core.Path.{_≡_};
 ghost use lib.ListN.{length};
 ghost use Rattle.write_forms.specs.Draft.{numval, strval, strlistval, numlistval, entryPieces, cutAt, wrapped};
 ghost use Rattle.write_forms.specs.Outcome.{buffer};
-ghost use Rattle.write_range.specs.Fits.{entryFits, entryStringsFits};
+ghost use Rattle.write_message.specs.Fits.{entryFits, entryStringsFits};
 ghost use Rattle.write_message.specs.Wrote.{wrote};
 
 fn entry_fits(member: u64, key: &[u8]) -> bool

@@ -1,19 +1,19 @@
 // The writers of the messages that a session stores after its accept: I/O buffers, window sizes, suspends and exits. How a writer is
 // called and what it answers stands in `client_writer`, which has those of the other members of a ClientMessage.
-use write_fields::timed;
+use write_message::fits::both;
+use write_message::fits::flag;
+use write_message::fits::member_in;
+use write_message::fits::moment_fits;
+use write_message::fits::sized;
+use write_message::form::timed;
 use write_message::outcome::Wrote;
 use write_message::write::write_plain;
-use write_range::both;
-use write_range::flag;
-use write_range::member_in;
-use write_range::moment_fits;
-use write_range::sized;
 ghost use mathlib.Core.Path.{_≡_};
 ghost use lib.ListN.{length};
 ghost use Rattle.write_forms.specs.Draft.{exitPieces, timedPieces, windowPieces, wrapped};
 ghost use Rattle.write_forms.specs.Outcome.{buffer};
 ghost use Rattle.write_pieces.specs.Put.{stamp};
-ghost use Rattle.write_range.specs.Fits.{exitFits, ioFits, windowFits, suspendFits};
+ghost use Rattle.write_message.specs.Fits.{exitFits, ioFits, windowFits, suspendFits};
 ghost use Rattle.write_message.specs.Wrote.{wrote};
 
 // An ExitMessage, member 3.

@@ -1,6 +1,6 @@
 // The writers of lists by themselves: a StringList and a NumberList. How a writer is called and what it answers stands in `client_writer`.
-use write_fields::listed;
 use write_lists::ends_fit;
+use write_message::form::listed;
 use write_message::outcome::Wrote;
 use write_message::write::write_message;
 ghost use mathlib.Core.Path.{_≡_};
@@ -8,7 +8,7 @@ ghost use mathlib.Core.Bool.{true};
 ghost use lib.ListN.{length};
 ghost use Rattle.write_forms.specs.Draft.{stringListPieces, numberListPieces, cutAt, wrapped};
 ghost use Rattle.write_forms.specs.Outcome.{buffer};
-ghost use Rattle.write_range.specs.Fits.{endsFit};
+ghost use Rattle.write_message.specs.Fits.{endsFit};
 ghost use Rattle.write_message.specs.Wrote.{wrote};
 
 // A StringList by itself.

@@ -1,10 +1,10 @@
 // Every message is written here: the refusals in document 01's order ("its run's refusal, then 7, then 1 for a message too long,
 // then 12"), then the frame, the member around the message, and the form.
+use crate::form::Form;
+use crate::form::len_form;
+use crate::form::len_middle;
+use crate::form::put_form;
 use crate::outcome::Wrote;
-use write_fields::Form;
-use write_fields::len_form;
-use write_fields::len_middle;
-use write_fields::put_form;
 use write_pieces::part::len_cover;
 use write_pieces::part::len_front;
 use write_pieces::part::put_cover;
@@ -15,7 +15,7 @@ ghost use mathlib.Core.Bool.{true, false};
 ghost use lib.ListN.{length};
 ghost use Rattle.write_forms.specs.Draft.{badEnds, wrapped};
 ghost use Rattle.write_forms.specs.Outcome.{roomRefusal};
-ghost use Rattle.write_fields.specs.Form.{middle, formPieces};
+ghost use Rattle.write_message.specs.Form.{middle, formPieces};
 ghost use Rattle.write_message.specs.Wrote.{Outcome};
 
 // The refusal of a message of n bytes: 1 where it is too long, 12 where it and its frame have no room.

@@ -1,14 +1,14 @@
 // The writers of a ServerMessage's members, as in `client_writer`.
-use write_fields::listed;
-use write_fields::numbered;
 use write_lists::ends_fit;
+use write_message::fits::both;
+use write_message::fits::flag;
+use write_message::fits::member_in;
+use write_message::fits::moment_fits;
+use write_message::form::listed;
+use write_message::form::numbered;
 use write_message::outcome::Wrote;
 use write_message::write::write_message;
 use write_message::write::write_plain;
-use write_range::both;
-use write_range::flag;
-use write_range::member_in;
-use write_range::moment_fits;
 ghost use mathlib.Core.Path.{_≡_};
 ghost use mathlib.Core.List.{[], _∷_};
 ghost use lib.ListN.{length};
@@ -16,7 +16,7 @@ ghost use Rattle.write_forms.specs.Pieces.{bytes, encodeAll};
 ghost use Rattle.write_forms.specs.Draft.{timePieces, serverHelloPieces, cutAt, wrapped};
 ghost use Rattle.write_forms.specs.Outcome.{buffer};
 ghost use Rattle.write_pieces.specs.Put.{stamp};
-ghost use Rattle.write_range.specs.Fits.{serverHelloFits, timeFits, noteFits};
+ghost use Rattle.write_message.specs.Fits.{serverHelloFits, timeFits, noteFits};
 ghost use Rattle.write_message.specs.Wrote.{wrote};
 
 // A ServerHello, member 1; its servers are lent as joined bytes and ends.

@@ -1,4 +1,4 @@
-use Rattle.write_range.specs.Fits.{reportMember}
+use Rattle.write_message.specs.Fits.{reportMember}
 use borrow.Author.Tests.{eq-eqb, ne-eqb}
 use borrow.Author.Needs.{needs}
 use Rattle.write_client.proofs.report_member.Statement.{statement}

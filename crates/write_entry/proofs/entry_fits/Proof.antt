@@ -1,4 +1,4 @@
-use Rattle.write_range.proofs.Members.{both-same}
+use Rattle.write_message.proofs.Members.{both-same}
 use lib.ListN.{length}
 use lib.Dec.{leb}
 use mathlib.Core.Path.{refl}

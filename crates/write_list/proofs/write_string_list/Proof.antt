@@ -1,5 +1,5 @@
 use Rattle.write_message.proofs.Outcomes.{same-outcome, same-wrapped}
-use Rattle.write_range.specs.Fits.{endsFit}
+use Rattle.write_message.specs.Fits.{endsFit}
 use Rattle.write_pieces.specs.Put.{cover, around}
 use Rattle.write_forms.specs.Pieces.{encode, packed}
 use mathlib.Core.List.{append-nil}

@@ -1,6 +1,6 @@
 use borrow.Author.Tests.{ne-eqb}
 use Rattle.base_laws.proofs.Tests.{tests}
-use Rattle.write_range.specs.Fits.{timeFits}
+use Rattle.write_message.specs.Fits.{timeFits}
 use borrow.Author.Needs.{needs}
 use Rattle.write_server.proofs.time_fits.Statement.{statement}
 use Rattle.write_server.proofs.time_fits.Tie as tie

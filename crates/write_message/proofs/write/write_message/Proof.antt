@@ -1,7 +1,7 @@
 use borrow.Author.Tests.{not-true, not-false}
 use Rattle.write_message.proofs.Outcomes.{run-refused, out-of-range, no-room, written, room-fits, like-wrapped, put-wrapped}
-use Rattle.write_fields.proofs.Forms.{middle-least}
-use Rattle.write_fields.specs.Form.{firstPieces, lastPieces, middle, formPieces}
+use Rattle.write_message.proofs.Forms.{middle-least}
+use Rattle.write_message.specs.Form.{firstPieces, lastPieces, middle, formPieces}
 use Rattle.write_pieces.proofs.Lengths.{like-exact, like-within}
 use Rattle.write_pieces.specs.Put.{Like}
 use Rattle.write_forms.specs.Pieces.{Piece, encodeAll}
