@@ -1,8 +1,8 @@
 -- Each line computes to the one that is shown. Assumes nothing.
 use mathlib.Core.Path.{refl}
 use Rattle.replay_end.specs.Examples.{LineExamples}
-use Rattle.replay_numbers.specs.Words.{digits, decimal}
-use Rattle.replay_names.specs.Names.{memberName, stateName}
+use Rattle.replay_text.specs.Words.{digits, decimal}
+use Rattle.replay_text.specs.Names.{memberName, stateName}
 use Rattle.replay_line.specs.Wording.{verdict, pointText, keyText, frameLine}
 use Rattle.replay_end.specs.Ending.{ending, endLine}
 

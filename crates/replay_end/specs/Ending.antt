@@ -3,7 +3,7 @@ use Prim.Native.Nat.{ℕ}
 use mathlib.Core.List.{List, [], _++_}
 use lib.Dec.{eqb}
 use Rattle.base_laws.specs.Base.{pick}
-use Rattle.replay_numbers.specs.Words.{text, decimal}
+use Rattle.replay_text.specs.Words.{text, decimal}
 use Rattle.replay_end.specs.declared.End.{End}
 use Rattle.replay_end.specs.declared.End.the-variants as end
 

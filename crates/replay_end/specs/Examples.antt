@@ -8,7 +8,7 @@ use Rattle.session.specs.declared.State.the-variants.{Logging, Closed}
 use Rattle.session.specs.declared.Mark.the-variants as mark
 use Rattle.session.specs.declared.Point.{Point}
 use Rattle.session.specs.declared.Point.the-variants as point
-use Rattle.replay_numbers.specs.Words.{text}
+use Rattle.replay_text.specs.Words.{text}
 use Rattle.replay_line.specs.Wording.{frameLine}
 use Rattle.replay_end.specs.Ending.{endLine}
 use Rattle.replay_end.specs.declared.End.the-variants as end

@@ -1,5 +1,5 @@
 // The last line of a replay, written at the start of a lent buffer. A buffer of 256 bytes has room for it.
-use replay_numbers::put_decimal;
+use replay_text::numbers::put_decimal;
 use write_pieces::part::put_raw;
 ghost use mathlib.Core.Path.{_≡_};
 ghost use Prim.Native.Nat.{_+_, _≤_};

@@ -9,8 +9,8 @@ use Rattle.session.specs.Step.{Outcome}
 use Rattle.session.specs.declared.State.{State}
 use Rattle.session.specs.declared.Point.{Point}
 use Rattle.session.specs.declared.Point.the-variants as point
-use Rattle.replay_numbers.specs.Words.{text, decimal, nine}
-use Rattle.replay_names.specs.Names.{memberName, stateName}
+use Rattle.replay_text.specs.Words.{text, decimal, nine}
+use Rattle.replay_text.specs.Names.{memberName, stateName}
 
 -- ---- the line of a frame
 

@@ -1,9 +1,9 @@
 // The line of a frame, written at the start of a lent buffer. A buffer of 256 bytes has room for it.
-use replay_names::member_of;
-use replay_names::put_member;
-use replay_names::put_state;
-use replay_numbers::put_decimal;
-use replay_numbers::put_nine;
+use replay_text::names::member_of;
+use replay_text::names::put_member;
+use replay_text::names::put_state;
+use replay_text::numbers::put_decimal;
+use replay_text::numbers::put_nine;
 use session::Answer;
 use session::Point;
 use session::State;
@@ -14,7 +14,7 @@ ghost use Prim.Native.Nat.{_+_, _≤_};
 ghost use lib.ListN.{length};
 ghost use Rattle.write_pieces.specs.Put.{Put};
 ghost use Rattle.session.specs.Step.{outcome};
-ghost use Rattle.replay_names.specs.Names.{memberOf};
+ghost use Rattle.replay_text.specs.Names.{memberOf};
 ghost use Rattle.replay_line.specs.Wording.{heading, verdict, standing, pointText, keyText, frameLine, written, lineLength};
 
 fn put_heading(out: &mut [u8], n: u64) -> usize

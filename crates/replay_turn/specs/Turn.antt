@@ -4,7 +4,7 @@ use mathlib.Core.List.{List, []}
 use lib.Dec.{ltb}
 use Rattle.base_laws.specs.Base.{pick, part}
 use Rattle.session.specs.Step.{Outcome, newSession, step}
-use Rattle.replay_names.specs.Names.{memberOf}
+use Rattle.replay_text.specs.Names.{memberOf}
 use Rattle.replay_line.specs.Wording.{frameLine}
 use Rattle.replay_end.specs.Ending.{endLine}
 use Rattle.replay_end.specs.declared.End.the-variants as end

@@ -1,4 +1,4 @@
-use Rattle.replay_names.specs.Names.{memberOf}
+use Rattle.replay_text.specs.Names.{memberOf}
 use Rattle.replay_line.specs.Wording.{frameLine, written, lineLength}
 use Rattle.replay_turn.specs.Turn.{answered, counted}
 use Rattle.session.specs.Step.{Outcome, outcome}

@@ -5,7 +5,7 @@ ghost use mathlib.Core.Path.{_≡_};
 ghost use Prim.Native.Nat.{_+_, _≤_, _<_};
 ghost use lib.ListN.{length};
 ghost use Rattle.write_pieces.specs.Put.{Put};
-ghost use Rattle.replay_numbers.specs.Words.{digits, decimal, nine};
+ghost use Rattle.replay_text.specs.Words.{digits, decimal, nine};
 
 // The last digit stands after all the others, so the others are put first.
 fn put_digits(out: &mut [u8], at: usize, n: u64, k: usize) -> usize

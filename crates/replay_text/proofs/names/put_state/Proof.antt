@@ -1,8 +1,8 @@
-use Rattle.replay_names.specs.Names.{stateName}
+use Rattle.replay_text.specs.Names.{stateName}
 use native.Mathlib.Omega.{arith}
 use borrow.Author.Needs.{needs}
-use Rattle.replay_names.proofs.put_state.Statement.{statement}
-use Rattle.replay_names.proofs.put_state.Tie as tie
+use Rattle.replay_text.proofs.names.put_state.Statement.{statement}
+use Rattle.replay_text.proofs.names.put_state.Tie as tie
 
 enum-told : tie.Need-enum-told
 enum-told c = search needs

@@ -1,16 +1,16 @@
 use lib.ListN.{length-set}
-use Rattle.replay_numbers.specs.Words.{digits}
-use Rattle.replay_numbers.proofs.Digits.{digits-one, digits-more}
+use Rattle.replay_text.specs.Words.{digits}
+use Rattle.replay_text.proofs.Digits.{digits-one, digits-more}
 use Rattle.write_pieces.proofs.Puts.{then, nothing, put-byte, put-length}
 use native.Mathlib.Omega.{arith}
 use Prim.Native.Nat.{ℕ, _<_}
 use borrow.Fn.Kinds.{In, Out}
 use borrow.Fn.PlainCycle.{Measures, is, falls, and}
-use Rattle.replay_numbers.proofs.put_digits.Reads as put-digits
-use Rattle.replay_numbers.proofs.put_digits.Kinds as put-digits-kinds
-use Rattle.replay_numbers.proofs.+put_digits.Lts-put_digits as put-digits-lts
-use Rattle.replay_numbers.proofs.+put_digits.{statement}
-use Rattle.replay_numbers.proofs.+put_digits.Tie.{close}
+use Rattle.replay_text.proofs.numbers.put_digits.Reads as put-digits
+use Rattle.replay_text.proofs.numbers.put_digits.Kinds as put-digits-kinds
+use Rattle.replay_text.proofs.numbers.+put_digits.Lts-put_digits as put-digits-lts
+use Rattle.replay_text.proofs.numbers.+put_digits.{statement}
+use Rattle.replay_text.proofs.numbers.+put_digits.Tie.{close}
 
 abbrev μ-put-digits : Measures 1 put-digits-kinds.ps ℕ
 μ-put-digits κs a = a .1 .1 .1 .0

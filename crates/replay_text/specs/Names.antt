@@ -6,7 +6,7 @@ use Rattle.base_laws.specs.Base.{pick}
 use Rattle.wire_fields.specs.Fields.{lastIn, memberFrom}
 use Rattle.session.specs.declared.State.{State}
 use Rattle.session.specs.declared.State.the-variants.{New, Greeted, Logging, EventsOnly, Closed}
-use Rattle.replay_numbers.specs.Words.{text}
+use Rattle.replay_text.specs.Words.{text}
 
 -- the members of sudo_logsrv.proto's ClientMessage, by number
 unfoldable pub memberName : ℕ → List ℕ

@@ -8,7 +8,7 @@ ghost use mathlib.Core.Path.{_≡_};
 ghost use Prim.Native.Nat.{_+_, _≤_};
 ghost use lib.ListN.{length};
 ghost use Rattle.write_pieces.specs.Put.{Put};
-ghost use Rattle.replay_names.specs.Names.{memberName, memberOf, stateName};
+ghost use Rattle.replay_text.specs.Names.{memberName, memberOf, stateName};
 
 // The number of the member that counts, 0 for none.
 pub fn member_of(s: &[u8]) -> u64

@@ -1,9 +1,9 @@
 use Rattle.wire_fields.specs.Fields.{memberFrom}
-use Rattle.replay_names.specs.Names.{memberOf}
+use Rattle.replay_text.specs.Names.{memberOf}
 use mathlib.Core.Path.{sym, _∙_}
 use borrow.Author.Needs.{needs}
-use Rattle.replay_names.proofs.member_of.Statement.{statement}
-use Rattle.replay_names.proofs.member_of.Tie as tie
+use Rattle.replay_text.proofs.names.member_of.Statement.{statement}
+use Rattle.replay_text.proofs.names.member_of.Tie as tie
 
 last-in-requires : tie.Need-last-in-requires
 last-in-requires c κs = search needs

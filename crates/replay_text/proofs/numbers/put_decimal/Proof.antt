@@ -1,7 +1,7 @@
-use Rattle.replay_numbers.specs.Words.{decimal}
+use Rattle.replay_text.specs.Words.{decimal}
 use borrow.Author.Needs.{needs}
-use Rattle.replay_numbers.proofs.put_decimal.Statement.{statement}
-use Rattle.replay_numbers.proofs.put_decimal.Tie as tie
+use Rattle.replay_text.proofs.numbers.put_decimal.Statement.{statement}
+use Rattle.replay_text.proofs.numbers.put_decimal.Tie as tie
 
 put-digits-requires : tie.Need-put-digits-requires
 put-digits-requires c κs = search needs

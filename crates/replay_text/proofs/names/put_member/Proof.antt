@@ -1,9 +1,9 @@
 use borrow.Author.Tests.{ne-eqb}
-use Rattle.replay_names.specs.Names.{memberName}
+use Rattle.replay_text.specs.Names.{memberName}
 use native.Mathlib.Omega.{arith}
 use borrow.Author.Needs.{needs}
-use Rattle.replay_names.proofs.put_member.Statement.{statement}
-use Rattle.replay_names.proofs.put_member.Tie as tie
+use Rattle.replay_text.proofs.names.put_member.Statement.{statement}
+use Rattle.replay_text.proofs.names.put_member.Tie as tie
 
 slice-aggregate-put-raw : tie.Need-slice-aggregate-put-raw
 slice-aggregate-put-raw c = search needs
