@@ -2,8 +2,8 @@
 // answers. What is decided and what is printed stands in `report`, `wording` and `ending`, proved; here bytes come in and lines go out.
 use libc::STDIN_FILENO;
 use libc::STDOUT_FILENO;
-use replay_end::End;
-use replay_end::end_line;
+use replay_lines::end::End;
+use replay_lines::end::end_line;
 use replay_turn::Replay;
 use replay_turn::start;
 use replay_turn::turn;

@@ -5,9 +5,9 @@ use lib.Dec.{ltb}
 use Rattle.base_laws.specs.Base.{pick, part}
 use Rattle.session.specs.Step.{Outcome, newSession, step}
 use Rattle.replay_text.specs.Names.{memberOf}
-use Rattle.replay_line.specs.Wording.{frameLine}
-use Rattle.replay_end.specs.Ending.{endLine}
-use Rattle.replay_end.specs.declared.End.the-variants as end
+use Rattle.replay_lines.specs.Wording.{frameLine}
+use Rattle.replay_lines.specs.Ending.{endLine}
+use Rattle.replay_lines.specs.declared.end.End.the-variants as end
 use Rattle.replay_window.specs.Window.{nextOf}
 use Rattle.replay_window.specs.declared.Next.{Next}
 use Rattle.replay_window.specs.declared.Next.the-variants.{Wait, Frame, Beyond, Refused}

@@ -1,8 +1,8 @@
 // What the replay program does with the bytes at hand, and the lines that it prints. The program itself only reads, writes and
 // moves its window on.
-use replay_end::End;
-use replay_end::end_line;
-use replay_line::frame_line;
+use replay_lines::end::End;
+use replay_lines::end::end_line;
+use replay_lines::frame::frame_line;
 use replay_window::Next;
 use replay_window::decide;
 use session::Session;
@@ -11,7 +11,7 @@ use session_step::message;
 ghost use mathlib.Core.Path.{_≡_};
 ghost use Prim.Native.Nat.{_≤_};
 ghost use lib.ListN.{length};
-ghost use Rattle.replay_line.specs.Wording.{written, lineLength};
+ghost use Rattle.replay_lines.specs.Wording.{written, lineLength};
 ghost use Rattle.replay_window.specs.Window.{Within};
 ghost use Rattle.replay_turn.specs.Turn as t;
 ghost use Rattle.replay_turn.specs.Turn.{turned};

@@ -1,12 +1,12 @@
 use Rattle.replay_text.specs.Names.{memberOf}
-use Rattle.replay_line.specs.Wording.{frameLine, written, lineLength}
+use Rattle.replay_lines.specs.Wording.{frameLine, written, lineLength}
 use Rattle.replay_turn.specs.Turn.{answered, counted}
 use Rattle.session.specs.Step.{Outcome, outcome}
 use Rattle.base_laws.specs.Base.{part}
 use mathlib.Core.List.{List, []}
 use mathlib.Core.Path.{_≡_}
 use Prim.Native.Nat.{ℕ}
-use Rattle.replay_line.proofs.Lines.{silent, same-line}
+use Rattle.replay_lines.proofs.Lines.{silent, same-line}
 use Rattle.replay_window.specs.Window.{Within}
 use Rattle.replay_window.proofs.Cuts.{within}
 use Rattle.replay_turn.specs.Turn.{turned, byNext, handed}

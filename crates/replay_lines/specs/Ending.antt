@@ -1,0 +1,18 @@
+-- The last line that `replay` prints, as bytes. Texts in quotes are the page's wording (docs/DECISIONS.md, replay).
+use Prim.Native.Nat.{ℕ}
+use mathlib.Core.List.{List, [], _++_}
+use lib.Dec.{eqb}
+use Rattle.base_laws.specs.Base.{pick}
+use Rattle.replay_text.specs.Words.{text, decimal}
+use Rattle.replay_lines.specs.declared.end.End.{End}
+use Rattle.replay_lines.specs.declared.end.End.the-variants as end
+
+unfoldable pub ending : End → List ℕ
+ending (end.Input left) = pick (eqb left 0) [] (text ", " ++ decimal left ++ text " bytes left over")
+ending (end.Beyond size window) =
+    text ", then a frame of " ++ decimal size ++ text " bytes, beyond the window of " ++ decimal window
+ending end.Refused = text ", then refused 1"
+ending end.Unread = text ", then the input could not be read"
+
+unfoldable pub endLine : ℕ → End → List ℕ
+endLine n e = text "end: " ++ decimal n ++ text " frames" ++ ending e ++ text "\n"
