@@ -7,21 +7,6 @@ use Rattle.base_copy.proofs.Halves.{block-on}
 use Rattle.base_copy.proofs.copy_32.Statement.{statement}
 use Rattle.base_copy.proofs.copy_32.Tie as tie
 
-copy-block-requires : tie.Need-copy-block-requires
-copy-block-requires c κs = search needs
-
-add-copy-block : tie.Need-add-copy-block
-add-copy-block c = search needs
-
-add-copy-block-2 : tie.Need-add-copy-block-2
-add-copy-block-2 c = search needs
-
-copy-block-requires-2 : tie.Need-copy-block-requires-2
-copy-block-requires-2 c κs = search needs
-
-same-length : tie.Need-same-length
-same-length c = search needs
-
 returns : tie.Need-returns
 returns c =
     let a = c .before .before .before .before .before .before .before .before .before .before .args in
@@ -33,9 +18,9 @@ pub copy-32-spec : {M : Type 1} → statement M
 copy-32-spec =
     tie.close
     (tie.spec
-    copy-block-requires
-    add-copy-block
-    add-copy-block-2
-    copy-block-requires-2
-    same-length
+    (λ c κs. search needs)
+    (λ c. search needs)
+    (λ c. search needs)
+    (λ c κs. search needs)
+    (λ c. search needs)
     returns)

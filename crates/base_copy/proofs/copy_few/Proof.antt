@@ -20,21 +20,6 @@ abbrev μ-loop : tie.MeasureT-loop
 loop-holds : tie.Need-loop-holds Inv-loop μ-loop
 loop-holds c = (omega arith, paste-zero (c .args .area .now) (c .args .at) (c .args .bytes .now), refl)
 
-shared-slice-read-area : tie.Need-shared-slice-read-area Inv-loop μ-loop
-shared-slice-read-area c = search needs
-
-add-area : tie.Need-add-area Inv-loop μ-loop
-add-area c = search needs
-
-slice-write-area : tie.Need-slice-write-area Inv-loop μ-loop
-slice-write-area c = search needs
-
-add-i : tie.Need-add-i Inv-loop μ-loop
-add-i c = search needs
-
-loop-less : tie.Need-loop-less Inv-loop μ-loop
-loop-less c = search needs
-
 loop-again : tie.Need-loop-again Inv-loop μ-loop
 loop-again c =
     let l = c .before .before .loop in
@@ -45,9 +30,6 @@ loop-again c =
           ∙ ap (paste (a .area .now) (a .at) (a .bytes .now)) (sym (add-one (l .i))),
       length-set (l .area) (a .at + l .i) (getD (a .bytes .now) (l .i) 0) ∙ l .inv .2,
     )
-
-same-length : tie.Need-same-length Inv-loop μ-loop
-same-length c = search needs
 
 returns : tie.Need-returns Inv-loop μ-loop
 returns c =
@@ -62,11 +44,11 @@ copy-few-spec =
     Inv-loop
     μ-loop
     loop-holds
-    shared-slice-read-area
-    add-area
-    slice-write-area
-    add-i
-    loop-less
+    (λ c. search needs)
+    (λ c. search needs)
+    (λ c. search needs)
+    (λ c. search needs)
+    (λ c. search needs)
     loop-again
-    same-length
+    (λ c. search needs)
     returns)

@@ -8,27 +8,6 @@ use borrow.Author.Needs.{needs}
 use Rattle.base_copy.proofs.copy_long.Statement.{statement}
 use Rattle.base_copy.proofs.copy_long.Tie as tie
 
-copy-pages-requires : tie.Need-copy-pages-requires
-copy-pages-requires c κs = search needs
-
-add-copy-few : tie.Need-add-copy-few
-add-copy-few c = search needs
-
-sub-copy-few : tie.Need-sub-copy-few
-sub-copy-few c = search needs
-
-part-copy-few-start : tie.Need-part-copy-few-start
-part-copy-few-start c = search needs
-
-part-copy-few-end : tie.Need-part-copy-few-end
-part-copy-few-end c = search needs
-
-copy-few-requires : tie.Need-copy-few-requires
-copy-few-requires c κs = search needs
-
-same-length : tie.Need-same-length
-same-length c = search needs
-
 returns : tie.Need-returns
 returns c =
     let a = c .before .before .before .before .before .before .before .before .before .before .before .args in
@@ -40,11 +19,11 @@ pub copy-long-spec : {M : Type 1} → statement M
 copy-long-spec =
     tie.close
     (tie.spec
-    copy-pages-requires
-    add-copy-few
-    sub-copy-few
-    part-copy-few-start
-    part-copy-few-end
-    copy-few-requires
-    same-length
+    (λ c κs. search needs)
+    (λ c. search needs)
+    (λ c. search needs)
+    (λ c. search needs)
+    (λ c. search needs)
+    (λ c κs. search needs)
+    (λ c. search needs)
     returns)

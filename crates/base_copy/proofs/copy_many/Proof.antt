@@ -17,21 +17,6 @@ abbrev μ-loop : tie.MeasureT-loop
 loop-holds : tie.Need-loop-holds Inv-loop μ-loop
 loop-holds c = let a = c .before .before .args in (omega arith, paste-zero (a .area .now) (a .at) (a .bytes .now), refl)
 
-sub-loop : tie.Need-sub-loop Inv-loop μ-loop
-sub-loop c = search needs
-
-add-copy-block : tie.Need-add-copy-block Inv-loop μ-loop
-add-copy-block c = search needs
-
-copy-block-requires : tie.Need-copy-block-requires Inv-loop μ-loop
-copy-block-requires c κs = search needs
-
-add-j : tie.Need-add-j Inv-loop μ-loop
-add-j c = search needs
-
-loop-less : tie.Need-loop-less Inv-loop μ-loop
-loop-less c = search needs
-
 loop-again : tie.Need-loop-again Inv-loop μ-loop
 loop-again c =
     let l = c .before .before .before .before .before .loop in
@@ -41,30 +26,12 @@ loop-again c =
       search needs,
     )
 
-sub-copy-block : tie.Need-sub-copy-block Inv-loop μ-loop
-sub-copy-block c = search needs
-
-add-copy-block-2 : tie.Need-add-copy-block-2 Inv-loop μ-loop
-add-copy-block-2 c = search needs
-
-sub-copy-block-2 : tie.Need-sub-copy-block-2 Inv-loop μ-loop
-sub-copy-block-2 c = search needs
-
-copy-block-requires-2 : tie.Need-copy-block-requires-2 Inv-loop μ-loop
-copy-block-requires-2 c κs = search needs
-
-same-length : tie.Need-same-length Inv-loop μ-loop
-same-length c = search needs
-
 returns : tie.Need-returns Inv-loop μ-loop
 returns c =
     let l = c .before .before .before .before .before .before .loop in
     let a = c .before .before .before .before .before .before .before .before .before .args in
     c .before .before .copy-block2 .ensures
     ∙ laid-over (a .area .now) (l .area) (a .at) (a .bytes .now) (l .j) 15 (l .inv .1) (omega arith) (omega arith) (omega arith) (omega arith)
-
-same-length-2 : tie.Need-same-length-2 Inv-loop μ-loop
-same-length-2 c = search needs
 
 returns-2 : tie.Need-returns-2 Inv-loop μ-loop
 returns-2 c =
@@ -79,17 +46,17 @@ copy-many-spec =
     Inv-loop
     μ-loop
     loop-holds
-    sub-loop
-    add-copy-block
-    copy-block-requires
-    add-j
-    loop-less
+    (λ c. search needs)
+    (λ c. search needs)
+    (λ c κs. search needs)
+    (λ c. search needs)
+    (λ c. search needs)
     loop-again
-    sub-copy-block
-    add-copy-block-2
-    sub-copy-block-2
-    copy-block-requires-2
-    same-length
+    (λ c. search needs)
+    (λ c. search needs)
+    (λ c. search needs)
+    (λ c κs. search needs)
+    (λ c. search needs)
     returns
-    same-length-2
+    (λ c. search needs)
     returns-2)

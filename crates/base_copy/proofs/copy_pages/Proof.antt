@@ -23,33 +23,6 @@ loop-holds c =
       refl,
     )
 
-sub-loop : tie.Need-sub-loop Inv-loop μ-loop
-sub-loop c = search needs
-
-add-copy-page : tie.Need-add-copy-page Inv-loop μ-loop
-add-copy-page c = search needs
-
-add-copy-page-2 : tie.Need-add-copy-page-2 Inv-loop μ-loop
-add-copy-page-2 c = search needs
-
-sub-copy-page : tie.Need-sub-copy-page Inv-loop μ-loop
-sub-copy-page c = search needs
-
-part-copy-page-start : tie.Need-part-copy-page-start Inv-loop μ-loop
-part-copy-page-start c = search needs
-
-part-copy-page-end : tie.Need-part-copy-page-end Inv-loop μ-loop
-part-copy-page-end c = search needs
-
-copy-page-requires : tie.Need-copy-page-requires Inv-loop μ-loop
-copy-page-requires c κs = search needs
-
-add-j : tie.Need-add-j Inv-loop μ-loop
-add-j c = search needs
-
-loop-less : tie.Need-loop-less Inv-loop μ-loop
-loop-less c = search needs
-
 loop-again : tie.Need-loop-again Inv-loop μ-loop
 loop-again c =
     let l = c .before .before .before .before .before .before .loop in
@@ -58,9 +31,6 @@ loop-again c =
       part-on (a .area .now) (l .area) _ (a .at) (a .bytes .now) (l .j) (l .j + 16384) (omega arith) (omega arith) (omega arith) (l .inv .1) (c .before .before .copy-page .ensures),
       search needs,
     )
-
-same-length : tie.Need-same-length Inv-loop μ-loop
-same-length c = search needs
 
 returns : tie.Need-returns Inv-loop μ-loop
 returns c = let l = c .before .loop in (omega arith, l .inv .1)
@@ -72,15 +42,15 @@ copy-pages-spec =
     Inv-loop
     μ-loop
     loop-holds
-    sub-loop
-    add-copy-page
-    add-copy-page-2
-    sub-copy-page
-    part-copy-page-start
-    part-copy-page-end
-    copy-page-requires
-    add-j
-    loop-less
+    (λ c. search needs)
+    (λ c. search needs)
+    (λ c. search needs)
+    (λ c. search needs)
+    (λ c. search needs)
+    (λ c. search needs)
+    (λ c κs. search needs)
+    (λ c. search needs)
+    (λ c. search needs)
     loop-again
-    same-length
+    (λ c. search needs)
     returns)

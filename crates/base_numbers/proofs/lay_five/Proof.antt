@@ -4,12 +4,6 @@ use borrow.Author.Needs.{needs}
 use Rattle.base_numbers.proofs.lay_five.Statement.{statement}
 use Rattle.base_numbers.proofs.lay_five.Tie as tie
 
-put-five-requires : tie.Need-put-five-requires
-put-five-requires c κs = search needs
-
-same-length : tie.Need-same-length
-same-length c = search needs
-
 returns : tie.Need-returns
 returns c = let a = c .before .before .before .before .before .before .args in has-room (a .a ∷ a .b ∷ a .c ∷ a .d ∷ a .e ∷ []) (a .out .now) _ (c .before .before .before .before .if1 .taken) (c .before .before .put-five .ensures)
 
@@ -17,4 +11,4 @@ returns-2 : tie.Need-returns-2
 returns-2 c = let a = c .before .before .args in no-room (a .a ∷ a .b ∷ a .c ∷ a .d ∷ a .e ∷ []) (a .out .now) (c .if1 .left)
 
 pub lay-five-spec : {M : Type 1} → statement M
-lay-five-spec = tie.close (tie.spec put-five-requires same-length returns returns-2)
+lay-five-spec = tie.close (tie.spec (λ c κs. search needs) (λ c. search needs) returns returns-2)

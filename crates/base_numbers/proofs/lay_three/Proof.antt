@@ -4,12 +4,6 @@ use borrow.Author.Needs.{needs}
 use Rattle.base_numbers.proofs.lay_three.Statement.{statement}
 use Rattle.base_numbers.proofs.lay_three.Tie as tie
 
-put-three-requires : tie.Need-put-three-requires
-put-three-requires c κs = search needs
-
-same-length : tie.Need-same-length
-same-length c = search needs
-
 returns : tie.Need-returns
 returns c = let a = c .before .before .before .before .before .before .args in has-room (a .a ∷ a .b ∷ a .c ∷ []) (a .out .now) _ (c .before .before .before .before .if1 .taken) (c .before .before .put-three .ensures)
 
@@ -17,4 +11,4 @@ returns-2 : tie.Need-returns-2
 returns-2 c = let a = c .before .before .args in no-room (a .a ∷ a .b ∷ a .c ∷ []) (a .out .now) (c .if1 .left)
 
 pub lay-three-spec : {M : Type 1} → statement M
-lay-three-spec = tie.close (tie.spec put-three-requires same-length returns returns-2)
+lay-three-spec = tie.close (tie.spec (λ c κs. search needs) (λ c. search needs) returns returns-2)

@@ -9,17 +9,11 @@ use Rattle.base_numbers.proofs.number_at.Tie as tie
 returns : tie.Need-returns
 returns c = let a = c .before .before .args in rw (lt-leb (a .at + 8) (length (a .s .now)) (omega arith))
 
-sub-if2 : tie.Need-sub-if2
-sub-if2 c = search needs
-
 returns-2 : tie.Need-returns-2
 returns-2 c = let a = c .before .before .before .args in rw (lt-leb (a .at + 8) (length (a .s .now)) (omega arith))
-
-number-of-requires : tie.Need-number-of-requires
-number-of-requires c κs = search needs
 
 returns-3 : tie.Need-returns-3
 returns-3 c = let a = c .before .before .before .before .args in rw (le-leb (a .at + 8) (length (a .s .now)) (omega arith)) (c .number-of .ensures)
 
 pub number-at-spec : {M : Type 1} → statement M
-number-at-spec = tie.close (tie.spec returns sub-if2 returns-2 number-of-requires returns-3)
+number-at-spec = tie.close (tie.spec returns (λ c. search needs) returns-2 (λ c κs. search needs) returns-3)

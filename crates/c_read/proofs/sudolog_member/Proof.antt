@@ -4,22 +4,13 @@ use borrow.Author.Needs.{needs}
 use Rattle.c_read.proofs.sudolog_member.Statement.{statement}
 use Rattle.c_read.proofs.sudolog_member.Tie as tie
 
-member-among-requires : tie.Need-member-among-requires
-member-among-requires c κs = search needs
-
 returns : tie.Need-returns
 unfolding memberOf
 returns c = rw (eq-eqb _ _ (c .before .if1 .taken)) (c .member-among .ensures)
 
-member-among-requires-2 : tie.Need-member-among-requires-2
-member-among-requires-2 c κs = search needs
-
 returns-2 : tie.Need-returns-2
 unfolding memberOf
 returns-2 c = rw (ne-eqb _ _ (c .before .before .if1 .left), eq-eqb _ _ (c .before .if2 .taken)) (c .member-among2 .ensures)
-
-member-among-requires-3 : tie.Need-member-among-requires-3
-member-among-requires-3 c κs = search needs
 
 returns-3 : tie.Need-returns-3
 unfolding memberOf
@@ -33,10 +24,10 @@ pub sudolog-member-spec : {M : Type 1} → statement M
 sudolog-member-spec =
     tie.close
     (tie.spec
-    member-among-requires
+    (λ c κs. search needs)
     returns
-    member-among-requires-2
+    (λ c κs. search needs)
     returns-2
-    member-among-requires-3
+    (λ c κs. search needs)
     returns-3
     returns-4)

@@ -3,12 +3,6 @@ use borrow.Author.Needs.{needs}
 use Rattle.c_session.proofs.has_point.Statement.{statement}
 use Rattle.c_session.proofs.has_point.Tie as tie
 
-enum-told : tie.Need-enum-told
-enum-told c = search needs
-
-enum-told-2 : tie.Need-enum-told-2
-enum-told-2 c = search needs
-
 returns : tie.Need-returns
 unfolding hasPoint
 returns c = rw (c .enum-told .given .1)
@@ -18,4 +12,4 @@ unfolding hasPoint
 returns-2 c = rw (c .enum-told2 .given .1)
 
 pub has-point-spec : {M : Type 1} → statement M
-has-point-spec = tie.close (tie.spec enum-told enum-told-2 returns returns-2)
+has-point-spec = tie.close (tie.spec (λ c. search needs) (λ c. search needs) returns returns-2)

@@ -3,12 +3,6 @@ use borrow.Author.Needs.{needs}
 use Rattle.c_session.proofs.point_number.Statement.{statement}
 use Rattle.c_session.proofs.point_number.Tie as tie
 
-enum-told : tie.Need-enum-told
-enum-told c = search needs
-
-enum-known-p : tie.Need-enum-known-p
-enum-known-p c = search needs
-
 returns : tie.Need-returns
 unfolding pointNumber
 returns c = rw (c .enum-told .given .1)
@@ -18,4 +12,4 @@ unfolding pointNumber
 returns-2 c = rw (c .before .p .given .1)
 
 pub point-number-spec : {M : Type 1} → statement M
-point-number-spec = tie.close (tie.spec enum-told enum-known-p returns returns-2)
+point-number-spec = tie.close (tie.spec (λ c. search needs) (λ c. search needs) returns returns-2)

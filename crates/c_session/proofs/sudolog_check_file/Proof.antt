@@ -4,18 +4,6 @@ use borrow.Author.Needs.{needs}
 use Rattle.c_session.proofs.sudolog_check_file.Statement.{statement}
 use Rattle.c_session.proofs.sudolog_check_file.Tie as tie
 
-check-file-requires : tie.Need-check-file-requires
-check-file-requires c κs = search needs
-
-enum-told : tie.Need-enum-told
-enum-told c = search needs
-
-enum-told-2 : tie.Need-enum-told-2
-enum-told-2 c = search needs
-
-enum-known-n : tie.Need-enum-known-n
-enum-known-n c = search needs
-
 returns : tie.Need-returns
 unfolding fileNumber
 returns c = rw (sym (c .before .before .check-file .ensures) ∙ c .enum-told .given .1)
@@ -31,4 +19,4 @@ returns-3 c = rw (sym (c .before .before .before .check-file .ensures) ∙ c .be
 pub sudolog-check-file-spec : {M : Type 1} → statement M
 sudolog-check-file-spec =
     tie.close
-    (tie.spec check-file-requires enum-told enum-told-2 enum-known-n returns returns-2 returns-3)
+    (tie.spec (λ c κs. search needs) (λ c. search needs) (λ c. search needs) (λ c. search needs) returns returns-2 returns-3)

@@ -5,24 +5,12 @@ use borrow.Author.Needs.{needs}
 use Rattle.c_session.proofs.sudolog_session_open.Statement.{statement}
 use Rattle.c_session.proofs.sudolog_session_open.Tie as tie
 
-open-requires : tie.Need-open-requires
-open-requires c κs = search needs
-
-save-requires : tie.Need-save-requires
-save-requires c κs = search needs
-
-same-length : tie.Need-same-length
-same-length c = search needs
-
 returns : tie.Need-returns
 returns c = let a = c .before .before .before .before .before .before .before .args in (rw (sym (c .before .before .before .save .ensures .0) ∙ c .if1 .taken), c .before .before .before .save .ensures .1 ∙ ap (λ (x : Session). kept x (a .slice .now)) (c .before .before .before .before .«open» .ensures))
-
-same-length-2 : tie.Need-same-length-2
-same-length-2 c = search needs
 
 returns-2 : tie.Need-returns-2
 returns-2 c = let a = c .before .before .before .before .before .before .before .args in (rw (sym (c .before .before .before .save .ensures .0) ∙ c .if1 .left), c .before .before .before .save .ensures .1 ∙ ap (λ (x : Session). kept x (a .slice .now)) (c .before .before .before .before .«open» .ensures))
 
 pub sudolog-session-open-spec : {M : Type 1} → statement M
 sudolog-session-open-spec =
-    tie.close (tie.spec open-requires save-requires same-length returns same-length-2 returns-2)
+    tie.close (tie.spec (λ c κs. search needs) (λ c κs. search needs) (λ c. search needs) returns (λ c. search needs) returns-2)

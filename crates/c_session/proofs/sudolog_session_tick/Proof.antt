@@ -5,18 +5,6 @@ use borrow.Author.Needs.{needs}
 use Rattle.c_session.proofs.sudolog_session_tick.Statement.{statement}
 use Rattle.c_session.proofs.sudolog_session_tick.Tie as tie
 
-load-requires : tie.Need-load-requires
-load-requires c κs = search needs
-
-tick-requires : tie.Need-tick-requires
-tick-requires c κs = search needs
-
-enum-told : tie.Need-enum-told
-enum-told c = search needs
-
-enum-known-t : tie.Need-enum-known-t
-enum-known-t c = search needs
-
 returns : tie.Need-returns
 unfolding tickNumber
 returns c = rw (sym (c .before .before .tick .ensures ∙ ap tick (c .before .before .before .load .ensures)) ∙ c .enum-told .given .1)
@@ -27,4 +15,4 @@ returns-2 c = rw (sym (c .before .before .before .tick .ensures ∙ ap tick (c .
 
 pub sudolog-session-tick-spec : {M : Type 1} → statement M
 sudolog-session-tick-spec =
-    tie.close (tie.spec load-requires tick-requires enum-told enum-known-t returns returns-2)
+    tie.close (tie.spec (λ c κs. search needs) (λ c κs. search needs) (λ c. search needs) (λ c. search needs) returns returns-2)

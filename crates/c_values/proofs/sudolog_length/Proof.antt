@@ -5,14 +5,8 @@ use borrow.Author.Needs.{needs}
 use Rattle.c_values.proofs.sudolog_length.Statement.{statement}
 use Rattle.c_values.proofs.sudolog_length.Tie as tie
 
-part-in-requires : tie.Need-part-in-requires
-part-in-requires c κs = search needs
-
-between-requires : tie.Need-between-requires
-between-requires c κs = search needs
-
 returns : tie.Need-returns
 returns c = c .between .ensures ∙ ap (λ (p : Span). p .end - p .start) (c .before .part-in .ensures)
 
 pub sudolog-length-spec : {M : Type 1} → statement M
-sudolog-length-spec = tie.close (tie.spec part-in-requires between-requires returns)
+sudolog-length-spec = tie.close (tie.spec (λ c κs. search needs) (λ c κs. search needs) returns)

@@ -5,27 +5,9 @@ use borrow.Author.Needs.{needs}
 use Rattle.c_values.proofs.sudolog_next_number.Statement.{statement}
 use Rattle.c_values.proofs.sudolog_next_number.Tie as tie
 
-next-number-requires : tie.Need-next-number-requires
-next-number-requires c κs = search needs
-
-enum-known-value : tie.Need-enum-known-value
-enum-known-value c = search needs
-
-lay-three-requires : tie.Need-lay-three-requires
-lay-three-requires c κs = search needs
-
-same-length : tie.Need-same-length
-same-length c = search needs
-
 returns : tie.Need-returns
 unfolding told
 returns c = let a = c .before .before .before .before .before .before .before .before .before .before .before .args in number-laid (a .s .now) (a .at) (a .end) (a .out .now) _ _ _ (ap (told (a .s .now)) (sym (c .before .before .before .before .before .before .value .given .1)) ∙ c .before .before .before .before .before .before .before .before .next-number .ensures) _ (sym (c .before .before .before .lay-three .ensures .0) ∙ c .if1 .taken) (c .before .before .before .lay-three .ensures .1)
-
-enum-told : tie.Need-enum-told
-enum-told c = search needs
-
-same-length-2 : tie.Need-same-length-2
-same-length-2 c = search needs
 
 returns-2 : tie.Need-returns-2
 unfolding told
@@ -39,12 +21,12 @@ pub sudolog-next-number-spec : {M : Type 1} → statement M
 sudolog-next-number-spec =
     tie.close
     (tie.spec
-    next-number-requires
-    enum-known-value
-    lay-three-requires
-    same-length
+    (λ c κs. search needs)
+    (λ c. search needs)
+    (λ c κs. search needs)
+    (λ c. search needs)
     returns
-    enum-told
-    same-length-2
+    (λ c. search needs)
+    (λ c. search needs)
     returns-2
     returns-3)

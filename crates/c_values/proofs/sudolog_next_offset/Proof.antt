@@ -4,15 +4,6 @@ use borrow.Author.Needs.{needs}
 use Rattle.c_values.proofs.sudolog_next_offset.Statement.{statement}
 use Rattle.c_values.proofs.sudolog_next_offset.Tie as tie
 
-next-part-requires : tie.Need-next-part-requires
-next-part-requires c κs = search needs
-
-enum-known-start : tie.Need-enum-known-start
-enum-known-start c = search needs
-
-enum-told : tie.Need-enum-told
-enum-told c = search needs
-
 returns : tie.Need-returns
 unfolding offsetOf
 returns c = rw (sym (c .before .before .before .next-part .ensures) ∙ c .before .start .given .1)
@@ -23,4 +14,4 @@ returns-2 c = rw (sym (c .before .before .next-part .ensures) ∙ c .enum-told .
 
 pub sudolog-next-offset-spec : {M : Type 1} → statement M
 sudolog-next-offset-spec =
-    tie.close (tie.spec next-part-requires enum-known-start enum-told returns returns-2)
+    tie.close (tie.spec (λ c κs. search needs) (λ c. search needs) (λ c. search needs) returns returns-2)

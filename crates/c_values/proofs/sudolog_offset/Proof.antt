@@ -4,11 +4,8 @@ use borrow.Author.Needs.{needs}
 use Rattle.c_values.proofs.sudolog_offset.Statement.{statement}
 use Rattle.c_values.proofs.sudolog_offset.Tie as tie
 
-part-in-requires : tie.Need-part-in-requires
-part-in-requires c κs = search needs
-
 returns : tie.Need-returns
 returns c = ap (λ (p : Span). p .start) (c .part-in .ensures)
 
 pub sudolog-offset-spec : {M : Type 1} → statement M
-sudolog-offset-spec = tie.close (tie.spec part-in-requires returns)
+sudolog-offset-spec = tie.close (tie.spec (λ c κs. search needs) returns)

@@ -5,18 +5,9 @@ use borrow.Author.Needs.{needs}
 use Rattle.c_write.proofs.sudolog_write_io.Statement.{statement}
 use Rattle.c_write.proofs.sudolog_write_io.Tie as tie
 
-write-io-requires : tie.Need-write-io-requires
-write-io-requires c κs = search needs
-
-answer-requires : tie.Need-answer-requires
-answer-requires c κs = search needs
-
-same-length : tie.Need-same-length
-same-length c = search needs
-
 returns : tie.Need-returns
 unfolding bool
 returns c = let w = c .before .before .before .write-io .ensures in (c .answer .ensures ∙ ap answerOf (w .0), w .1)
 
 pub sudolog-write-io-spec : {M : Type 1} → statement M
-sudolog-write-io-spec = tie.close (tie.spec write-io-requires answer-requires same-length returns)
+sudolog-write-io-spec = tie.close (tie.spec (λ c κs. search needs) (λ c κs. search needs) (λ c. search needs) returns)

@@ -4,9 +4,6 @@ use borrow.Author.Needs.{needs}
 use Rattle.replay_turn.proofs.counted.Statement.{statement}
 use Rattle.replay_turn.proofs.counted.Tie as tie
 
-add-result : tie.Need-add-result
-add-result c = search needs
-
 returns : tie.Need-returns
 unfolding w.counted
 returns c = search tests
@@ -16,4 +13,4 @@ unfolding w.counted
 returns-2 c = search tests
 
 pub counted-spec : {M : Type 1} → statement M
-counted-spec = tie.close (tie.spec add-result returns returns-2)
+counted-spec = tie.close (tie.spec (λ c. search needs) returns returns-2)

@@ -17,15 +17,6 @@ use borrow.Author.Needs.{needs}
 use Rattle.replay_turn.proofs.turn.Statement.{statement}
 use Rattle.replay_turn.proofs.turn.Tie as tie
 
-decide-requires : tie.Need-decide-requires
-decide-requires c κs = search needs
-
-enum-told : tie.Need-enum-told
-enum-told c = search needs
-
-enum-known-size : tie.Need-enum-known-size
-enum-known-size c = search needs
-
 sub-message : tie.Need-sub-message
 unfolding Within
 sub-message c = let a = c .before .before .before .before .before .before .before .before .args in let h = subst (Within (length (a .s .now))) (sym (c .before .before .before .before .decide .ensures) ∙ c .before .before .size .given .1) (within (a .s .now) (a .window)) in omega arith
@@ -37,12 +28,6 @@ part-message-start c = let a = c .before .before .before .before .before .before
 part-message-end : tie.Need-part-message-end
 unfolding Within
 part-message-end c = let a = c .before .before .before .before .before .before .before .before .args in let h = subst (Within (length (a .s .now))) (sym (c .before .before .before .before .decide .ensures) ∙ c .before .before .size .given .1) (within (a .s .now) (a .window)) in omega arith
-
-message-requires : tie.Need-message-requires
-message-requires c κs = search needs
-
-counted-requires : tie.Need-counted-requires
-counted-requires c κs = search needs
 
 sub-frame-line : tie.Need-sub-frame-line
 unfolding Within
@@ -56,30 +41,9 @@ part-frame-line-end : tie.Need-part-frame-line-end
 unfolding Within
 part-frame-line-end c = let a = c .before .before .before .before .before .before .before .before .before .before .before .before .before .before .before .args in let h = subst (Within (length (a .s .now))) (sym (c .before .before .before .before .before .before .before .before .before .before .before .decide .ensures) ∙ c .before .before .before .before .before .before .before .before .before .size .given .1) (within (a .s .now) (a .window)) in omega arith
 
-frame-line-requires : tie.Need-frame-line-requires
-frame-line-requires c κs = search needs
-
-enum-known-size-2 : tie.Need-enum-known-size-2
-enum-known-size-2 c = search needs
-
-end-line-requires : tie.Need-end-line-requires
-end-line-requires c κs = search needs
-
-enum-told-2 : tie.Need-enum-told-2
-enum-told-2 c = search needs
-
-end-line-requires-2 : tie.Need-end-line-requires-2
-end-line-requires-2 c κs = search needs
-
 returns : tie.Need-returns
 unfolding turned byNext Within
 returns c = let a = c .before .before .before .before .before .before .args in let e = sym (c .before .before .decide .ensures) ∙ c .enum-told .given .1 in let no = silent (a .out .now) in rw e (refl, (refl, (refl, (no .0, (no .1 .0, (omega arith, tt))))))
-
-same-length : tie.Need-same-length
-same-length c = search needs
-
-same-length-2 : tie.Need-same-length-2
-same-length-2 c = search needs
 
 returns-2 : tie.Need-returns-2
 unfolding turned byNext handed
@@ -95,15 +59,9 @@ returns-2 c =
     let same : frameLine (n .result) f (outcome (m .result) []) ≡ frameLine (counted (a .re .frames)) f o = same-line (n .result) f (m .result) [] (m .last .1 .1 .0) ∙ ap (frameLine (n .result) f) (m .ensures) ∙ ap (λ (k : ℕ). frameLine k f o) (n .ensures) in
     rw e (λ i. record { session = m .ensures i .session; used = m .ensures i .used; frames = n .ensures i }, (refl, (ap (λ (x : Outcome). x .area) (m .ensures), (l .0 ∙ ap (λ (t : List ℕ). written t (a .out .now)) same, (l .1 .0 ∙ ap (λ (t : List ℕ). lineLength t (a .out .now)) same, (l .1 .1, subst (Within (length (a .s .now))) e (within (a .s .now) (a .window))))))))
 
-same-length-3 : tie.Need-same-length-3
-same-length-3 c = search needs
-
 returns-3 : tie.Need-returns-3
 unfolding turned byNext Within
 returns-3 c = let a = c .before .before .before .before .before .before .before .before .before .before .before .args in let e = sym (c .before .before .before .before .before .before .before .decide .ensures) ∙ c .before .before .before .before .before .size2 .given .1 in let l = c .before .before .end-line .ensures in rw e (refl, (refl, (refl, (l .0, (l .1 .0, (l .1 .1, tt))))))
-
-same-length-4 : tie.Need-same-length-4
-same-length-4 c = search needs
 
 returns-4 : tie.Need-returns-4
 unfolding turned byNext Within
@@ -113,27 +71,27 @@ pub turn-spec : {M : Type 1} → statement M
 turn-spec =
     tie.close
     (tie.spec
-    decide-requires
-    enum-told
-    enum-known-size
+    (λ c κs. search needs)
+    (λ c. search needs)
+    (λ c. search needs)
     sub-message
     part-message-start
     part-message-end
-    message-requires
-    counted-requires
+    (λ c κs. search needs)
+    (λ c κs. search needs)
     sub-frame-line
     part-frame-line-start
     part-frame-line-end
-    frame-line-requires
-    enum-known-size-2
-    end-line-requires
-    enum-told-2
-    end-line-requires-2
+    (λ c κs. search needs)
+    (λ c. search needs)
+    (λ c κs. search needs)
+    (λ c. search needs)
+    (λ c κs. search needs)
     returns
-    same-length
-    same-length-2
+    (λ c. search needs)
+    (λ c. search needs)
     returns-2
-    same-length-3
+    (λ c. search needs)
     returns-3
-    same-length-4
+    (λ c. search needs)
     returns-4)

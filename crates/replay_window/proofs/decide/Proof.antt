@@ -8,12 +8,6 @@ use borrow.Author.Needs.{needs}
 use Rattle.replay_window.proofs.decide.Statement.{statement}
 use Rattle.replay_window.proofs.decide.Tie as tie
 
-cut-frame-requires : tie.Need-cut-frame-requires
-cut-frame-requires c κs = search needs
-
-enum-known-missing : tie.Need-enum-known-missing
-enum-known-missing c = search needs
-
 add-size : tie.Need-add-size
 add-size c = let s = c .before .before .before .before .before .args .s .now in let h = subst (Sized (length s)) (sym (c .before .before .before .cut-frame .ensures) ∙ c .before .missing .given .1) (sized s) in omega arith
 
@@ -21,14 +15,8 @@ returns : tie.Need-returns
 unfolding nextOf byCut
 returns c = rw (sym (c .before .before .before .before .cut-frame .ensures) ∙ c .before .before .missing .given .1, lt-ltb _ _ (c .if1 .taken))
 
-enum-known-length : tie.Need-enum-known-length
-enum-known-length c = search needs
-
 add-t10 : tie.Need-add-t10
 add-t10 c = let s = c .before .before .before .before .before .args .s .now in let h = subst (Sized (length s)) (sym (c .before .before .before .cut-frame .ensures) ∙ c .before .length .given .1) (sized s) in omega arith
-
-enum-told : tie.Need-enum-told
-enum-told c = search needs
 
 returns-2 : tie.Need-returns-2
 unfolding nextOf byCut
@@ -46,13 +34,13 @@ pub decide-spec : {M : Type 1} → statement M
 decide-spec =
     tie.close
     (tie.spec
-    cut-frame-requires
-    enum-known-missing
+    (λ c κs. search needs)
+    (λ c. search needs)
     add-size
     returns
-    enum-known-length
+    (λ c. search needs)
     add-t10
-    enum-told
+    (λ c. search needs)
     returns-2
     returns-3
     returns-4)

@@ -25,21 +25,6 @@ returns-2 c = let a = c .before .before .args in turned-round (a .window .now) (
 loop-holds : tie.Need-loop-holds Inv-loop μ-loop
 loop-holds c = let a = c .before .before .args in (omega arith, paste-zero (a .window .now) 0 (drop (a .from) (a .window .now)), refl)
 
-add-window : tie.Need-add-window Inv-loop μ-loop
-add-window c = search needs
-
-slice-read-window : tie.Need-slice-read-window Inv-loop μ-loop
-slice-read-window c = search needs
-
-slice-write-window : tie.Need-slice-write-window Inv-loop μ-loop
-slice-write-window c = search needs
-
-add-i : tie.Need-add-i Inv-loop μ-loop
-add-i c = search needs
-
-loop-less : tie.Need-loop-less Inv-loop μ-loop
-loop-less c = search needs
-
 loop-again : tie.Need-loop-again Inv-loop μ-loop
 loop-again c =
     let l = c .before .before .loop in
@@ -48,9 +33,6 @@ loop-again c =
       ap (λ (x : List ℕ). set x (l .i) (getD x (a .from + l .i) 0)) (l .inv .1) ∙ move-one (a .window .now) (a .from) (l .i) (omega arith),
       length-set (l .window) (l .i) (getD (l .window) (a .from + l .i) 0) ∙ l .inv .2,
     )
-
-same-length : tie.Need-same-length Inv-loop μ-loop
-same-length c = search needs
 
 returns-3 : tie.Need-returns-3 Inv-loop μ-loop
 returns-3 c =
@@ -68,11 +50,11 @@ slide-spec =
     returns
     returns-2
     loop-holds
-    add-window
-    slice-read-window
-    slice-write-window
-    add-i
-    loop-less
+    (λ c. search needs)
+    (λ c. search needs)
+    (λ c. search needs)
+    (λ c. search needs)
+    (λ c. search needs)
     loop-again
-    same-length
+    (λ c. search needs)
     returns-3)

@@ -4,12 +4,6 @@ use borrow.Author.Needs.{needs}
 use Rattle.session_bytes.proofs.are_session.Statement.{statement}
 use Rattle.session_bytes.proofs.are_session.Tie as tie
 
-is-state-requires : tie.Need-is-state-requires
-is-state-requires c κs = search needs
-
-are-within-requires : tie.Need-are-within-requires
-are-within-requires c κs = search needs
-
 returns : tie.Need-returns
 unfolding areSession
 returns c = rw (sym (c .before .before .is-state .ensures) ∙ c .before .if1 .taken) (c .are-within .ensures)
@@ -19,4 +13,4 @@ unfolding areSession
 returns-2 c = rw (sym (c .before .is-state .ensures) ∙ c .if1 .left)
 
 pub are-session-spec : {M : Type 1} → statement M
-are-session-spec = tie.close (tie.spec is-state-requires are-within-requires returns returns-2)
+are-session-spec = tie.close (tie.spec (λ c κs. search needs) (λ c κs. search needs) returns returns-2)

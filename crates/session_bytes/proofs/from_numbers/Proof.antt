@@ -4,27 +4,12 @@ use borrow.Author.Needs.{needs}
 use Rattle.session_bytes.proofs.from_numbers.Statement.{statement}
 use Rattle.session_bytes.proofs.from_numbers.Tie as tie
 
-are-session-requires : tie.Need-are-session-requires
-are-session-requires c κs = search needs
-
-without-mark-requires : tie.Need-without-mark-requires
-without-mark-requires c κs = search needs
-
-state-of-requires : tie.Need-state-of-requires
-state-of-requires c κs = search needs
-
-mark-of-requires : tie.Need-mark-of-requires
-mark-of-requires c κs = search needs
-
 returns : tie.Need-returns
 unfolding fromNumbers
 returns c = let a = c .before .before .before .before .before .args in
     let s = c .before .state-of .ensures ∙ ap stateOf (c .before .before .without-mark .ensures) in
     let m = c .mark-of .ensures in
     rw (sym (c .before .before .before .before .are-session .ensures) ∙ c .before .before .before .if1 .taken) (λ i. record { state = s i; used = a .used; total = a .total; low = a .low; mark = m i })
-
-closed-requires : tie.Need-closed-requires
-closed-requires c κs = search needs
 
 returns-2 : tie.Need-returns-2
 unfolding fromNumbers
@@ -34,10 +19,10 @@ pub from-numbers-spec : {M : Type 1} → statement M
 from-numbers-spec =
     tie.close
     (tie.spec
-    are-session-requires
-    without-mark-requires
-    state-of-requires
-    mark-of-requires
+    (λ c κs. search needs)
+    (λ c κs. search needs)
+    (λ c κs. search needs)
+    (λ c κs. search needs)
     returns
-    closed-requires
+    (λ c κs. search needs)
     returns-2)

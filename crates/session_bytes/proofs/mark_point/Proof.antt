@@ -3,12 +3,6 @@ use borrow.Author.Needs.{needs}
 use Rattle.session_bytes.proofs.mark_point.Statement.{statement}
 use Rattle.session_bytes.proofs.mark_point.Tie as tie
 
-enum-told : tie.Need-enum-told
-enum-told c = search needs
-
-enum-known-mark : tie.Need-enum-known-mark
-enum-known-mark c = search needs
-
 returns : tie.Need-returns
 unfolding markPoint
 returns c = rw (c .enum-told .given .1)
@@ -18,4 +12,4 @@ unfolding markPoint
 returns-2 c = rw (c .before .mark .given .1)
 
 pub mark-point-spec : {M : Type 1} → statement M
-mark-point-spec = tie.close (tie.spec enum-told enum-known-mark returns returns-2)
+mark-point-spec = tie.close (tie.spec (λ c. search needs) (λ c. search needs) returns returns-2)

@@ -7,23 +7,8 @@ use borrow.Author.Needs.{needs}
 use Rattle.session_bytes.proofs.save.Statement.{statement}
 use Rattle.session_bytes.proofs.save.Tie as tie
 
-state-number-requires : tie.Need-state-number-requires
-state-number-requires c κs = search needs
-
-mark-number-requires : tie.Need-mark-number-requires
-mark-number-requires c κs = search needs
-
 add-lay-five : tie.Need-add-lay-five
 add-lay-five c = let se = c .before .before .before .before .before .args .se in omega (arith, number-most (se .state) (se .mark) _ _ (c .before .state-number .ensures) (c .mark-number .ensures))
-
-mark-point-requires : tie.Need-mark-point-requires
-mark-point-requires c κs = search needs
-
-lay-five-requires : tie.Need-lay-five-requires
-lay-five-requires c κs = search needs
-
-same-length : tie.Need-same-length
-same-length c = search needs
 
 returns : tie.Need-returns
 returns c = let a = c .before .before .before .before .before .before .before .before .before .args in
@@ -39,11 +24,11 @@ pub save-spec : {M : Type 1} → statement M
 save-spec =
     tie.close
     (tie.spec
-    state-number-requires
-    mark-number-requires
+    (λ c κs. search needs)
+    (λ c κs. search needs)
     add-lay-five
-    mark-point-requires
-    lay-five-requires
-    same-length
+    (λ c κs. search needs)
+    (λ c κs. search needs)
+    (λ c. search needs)
     returns
     returns-2)

@@ -5,12 +5,6 @@ use borrow.Author.Needs.{needs}
 use Rattle.session_entries.proofs.entries_refusal.Statement.{statement}
 use Rattle.session_entries.proofs.entries_refusal.Tie as tie
 
-types-fit-requires : tie.Need-types-fit-requires
-types-fit-requires c κs = search needs
-
-missing-key-requires : tie.Need-missing-key-requires
-missing-key-requires c κs = search needs
-
 returns : tie.Need-returns
 unfolding entriesRefusal
 returns c =
@@ -32,4 +26,4 @@ returns-3 c = let t = sym (c .before .types-fit .ensures) ∙ c .if1 .left in (r
 
 pub entries-refusal-spec : {M : Type 1} → statement M
 entries-refusal-spec =
-    tie.close (tie.spec types-fit-requires missing-key-requires returns returns-2 returns-3)
+    tie.close (tie.spec (λ c κs. search needs) (λ c κs. search needs) returns returns-2 returns-3)

@@ -9,9 +9,6 @@ use borrow.Author.Needs.{needs}
 use Rattle.session_entries.proofs.has_key.Statement.{statement}
 use Rattle.session_entries.proofs.has_key.Tie as tie
 
-part-in-requires : tie.Need-part-in-requires
-part-in-requires c κs = search needs
-
 sub-is-key : tie.Need-sub-is-key
 sub-is-key c = let s = c .before .before .args .s .now in rw (c .part-in .ensures) (span-lies s 1 .0)
 
@@ -20,9 +17,6 @@ part-is-key-start c = let s = c .before .before .args .s .now in rw (c .part-in 
 
 part-is-key-end : tie.Need-part-is-key-end
 part-is-key-end c = let s = c .before .before .args .s .now in rw (c .part-in .ensures) (let h = span-lies s 1 in omega arith)
-
-is-key-requires : tie.Need-is-key-requires
-is-key-requires c κs = search needs
 
 returns : tie.Need-returns
 unfolding entry
@@ -33,9 +27,9 @@ pub has-key-spec : {M : Type 1} → statement M
 has-key-spec =
     tie.close
     (tie.spec
-    part-in-requires
+    (λ c κs. search needs)
     sub-is-key
     part-is-key-start
     part-is-key-end
-    is-key-requires
+    (λ c κs. search needs)
     returns)

@@ -21,12 +21,6 @@ abbrev μ-loop : tie.MeasureT-loop
 loop-holds : tie.Need-loop-holds Inv-loop μ-loop
 loop-holds c = let a = c .before .args in rw (all-entries (a .field) (a .s .now)) (fits-all (a .k) (entries (a .field) (items (a .s .now))))
 
-next-part-requires : tie.Need-next-part-requires Inv-loop μ-loop
-next-part-requires c κs = search needs
-
-enum-known-start : tie.Need-enum-known-start Inv-loop μ-loop
-enum-known-start c = search needs
-
 sub-has-key : tie.Need-sub-has-key Inv-loop μ-loop
 sub-has-key c = let a = c .before .before .before .before .before .before .args in
     found-lies (a .field) (a .s .now) (c .before .before .before .before .loop .at) (sym (c .before .before .before .next-part .ensures) ∙ c .before .start .given .1) .1
@@ -41,9 +35,6 @@ part-has-key-end c = let a = c .before .before .before .before .before .before .
     let h = found-lies (a .field) (a .s .now) (c .before .before .before .before .loop .at) (sym (c .before .before .before .next-part .ensures) ∙ c .before .start .given .1) in
     omega arith
 
-has-key-requires : tie.Need-has-key-requires Inv-loop μ-loop
-has-key-requires c κs = search needs
-
 sub-has-string : tie.Need-sub-has-string Inv-loop μ-loop
 sub-has-string c = let a = c .before .before .before .before .before .before .before .before .before .args in
     found-lies (a .field) (a .s .now) (c .before .before .before .before .before .before .before .loop .at) (sym (c .before .before .before .before .before .before .next-part .ensures) ∙ c .before .before .before .before .start .given .1) .1
@@ -57,9 +48,6 @@ part-has-string-end : tie.Need-part-has-string-end Inv-loop μ-loop
 part-has-string-end c = let a = c .before .before .before .before .before .before .before .before .before .args in
     let h = found-lies (a .field) (a .s .now) (c .before .before .before .before .before .before .before .loop .at) (sym (c .before .before .before .before .before .before .next-part .ensures) ∙ c .before .before .before .before .start .given .1) in
     omega arith
-
-has-string-requires : tie.Need-has-string-requires Inv-loop μ-loop
-has-string-requires c κs = search needs
 
 loop-less : tie.Need-loop-less Inv-loop μ-loop
 loop-less c = let a = c .before .before .before .before .before .before .before .before .before .before .before .args in
@@ -82,9 +70,6 @@ loop-again-2 c = let a = c .before .before .before .before .before .before .befo
     let l = c .before .before .before .before .before .before .before .loop in
     sym (fits-next (a .k) (l .fits) _ (a .field) (a .s .now) (l .at) (sym (c .before .before .before .before .before .before .next-part .ensures) ∙ c .before .before .before .before .start .given .1) (sym (c .before .has-key .ensures) ∙ c .if1 .left)) ∙ l .inv
 
-enum-told : tie.Need-enum-told Inv-loop μ-loop
-enum-told c = search needs
-
 returns : tie.Need-returns Inv-loop μ-loop
 unfolding fitsFrom
 returns c = let a = c .before .before .before .before .before .args in
@@ -97,19 +82,19 @@ key-fits-spec =
     Inv-loop
     μ-loop
     loop-holds
-    next-part-requires
-    enum-known-start
+    (λ c κs. search needs)
+    (λ c. search needs)
     sub-has-key
     part-has-key-start
     part-has-key-end
-    has-key-requires
+    (λ c κs. search needs)
     sub-has-string
     part-has-string-start
     part-has-string-end
-    has-string-requires
+    (λ c κs. search needs)
     loop-less
     loop-again
     loop-less-2
     loop-again-2
-    enum-told
+    (λ c. search needs)
     returns)

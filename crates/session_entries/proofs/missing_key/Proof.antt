@@ -30,12 +30,6 @@ keys-holds c = (omega arith, refl)
 loop-holds : tie.Need-loop-holds Inv-loop μ-loop Inv-keys μ-keys
 loop-holds c = let a = c .before .before .before .args in ap (has (c .before .keys .k)) (all-entries (a .field) (a .s .now))
 
-next-part-requires : tie.Need-next-part-requires Inv-loop μ-loop Inv-keys μ-keys
-next-part-requires c κs = search needs
-
-enum-known-start : tie.Need-enum-known-start Inv-loop μ-loop Inv-keys μ-keys
-enum-known-start c = search needs
-
 sub-has-key : tie.Need-sub-has-key Inv-loop μ-loop Inv-keys μ-keys
 sub-has-key c = let a = c .before .before .before .before .before .before .before .before .args in
     found-lies (a .field) (a .s .now) (c .before .before .before .before .loop .at) (sym (c .before .before .before .next-part .ensures) ∙ c .before .start .given .1) .1
@@ -50,9 +44,6 @@ part-has-key-end c = let a = c .before .before .before .before .before .before .
     let h = found-lies (a .field) (a .s .now) (c .before .before .before .before .loop .at) (sym (c .before .before .before .next-part .ensures) ∙ c .before .start .given .1) in
     omega arith
 
-has-key-requires : tie.Need-has-key-requires Inv-loop μ-loop Inv-keys μ-keys
-has-key-requires c κs = search needs
-
 loop-less : tie.Need-loop-less Inv-loop μ-loop Inv-keys μ-keys
 loop-less c = let a = c .before .before .before .before .before .before .before .before .before .before .before .args in
     let h = found-lies (a .field) (a .s .now) (c .before .before .before .before .before .before .before .loop .at) (sym (c .before .before .before .before .before .before .next-part .ensures) ∙ c .before .before .before .before .start .given .1) in
@@ -63,15 +54,6 @@ unfolding has
 loop-again c = let a = c .before .before .before .before .before .before .before .before .before .before .before .args in
     rw (entries-next (a .field) (a .s .now) (c .before .before .before .before .before .before .before .loop .at) (sym (c .before .before .before .before .before .before .next-part .ensures) ∙ c .before .before .before .before .start .given .1), sym (c .before .has-key .ensures) ∙ c .if1 .left)
     at (c .before .before .before .before .before .before .before .loop .inv)
-
-enum-told : tie.Need-enum-told Inv-loop μ-loop Inv-keys μ-keys
-enum-told c = search needs
-
-add-k : tie.Need-add-k Inv-loop μ-loop Inv-keys μ-keys
-add-k c = search needs
-
-keys-less : tie.Need-keys-less Inv-loop μ-loop Inv-keys μ-keys
-keys-less c = search needs
 
 keys-again : tie.Need-keys-again Inv-loop μ-loop Inv-keys μ-keys
 unfolding has
@@ -104,17 +86,17 @@ missing-key-spec =
     μ-keys
     keys-holds
     loop-holds
-    next-part-requires
-    enum-known-start
+    (λ c κs. search needs)
+    (λ c. search needs)
     sub-has-key
     part-has-key-start
     part-has-key-end
-    has-key-requires
+    (λ c κs. search needs)
     loop-less
     loop-again
-    enum-told
-    add-k
-    keys-less
+    (λ c. search needs)
+    (λ c. search needs)
+    (λ c. search needs)
     keys-again
     returns
     returns-2)

@@ -10,13 +10,10 @@ use borrow.Author.Needs.{needs}
 use Rattle.session_fast_accept.proofs.date_seen.Statement.{statement}
 use Rattle.session_fast_accept.proofs.date_seen.Tie as tie
 
-time-spec-in-requires : tie.Need-time-spec-in-requires
-time-spec-in-requires c κs = search needs
-
 returns : tie.Need-returns
 unfolding dateFits timeValue int32
 returns c = let t = c .before .time-spec-in in
     sym (up-to 999999999 2147483648 (t .result .nanos % 4294967296) (lit≤ tt)) ∙ ap (λ (x : TimeSpec). dateFits x) (t .ensures)
 
 pub date-seen-spec : {M : Type 1} → statement M
-date-seen-spec = tie.close (tie.spec time-spec-in-requires returns)
+date-seen-spec = tie.close (tie.spec (λ c κs. search needs) returns)

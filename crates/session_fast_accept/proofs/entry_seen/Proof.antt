@@ -10,43 +10,25 @@ use borrow.Author.Needs.{needs}
 use Rattle.session_fast_accept.proofs.entry_seen.Statement.{statement}
 use Rattle.session_fast_accept.proofs.entry_seen.Tie as tie
 
-plain-entry-requires : tie.Need-plain-entry-requires
-plain-entry-requires c κs = search needs
-
-enum-known-key : tie.Need-enum-known-key
-enum-known-key c = search needs
-
 other-seen-requires : tie.Need-other-seen-requires
 unfolding Formed
 other-seen-requires c κs = let p = c .before .before .before in
     subst (Formed (p .before .before .args .s .now)) (c .before .key .given .1) (p .plain-entry .ensures) .0 .ends
-
-enum-known-key-2 : tie.Need-enum-known-key-2
-enum-known-key-2 c = search needs
 
 string-seen-requires : tie.Need-string-seen-requires
 unfolding Formed
 string-seen-requires c κs = let p = c .before .before .before in
     subst (Formed (p .before .before .args .s .now)) (c .before .key2 .given .1) (p .plain-entry .ensures) .0 .holds .ends
 
-enum-known-key-3 : tie.Need-enum-known-key-3
-enum-known-key-3 c = search needs
-
 other-seen-requires-2 : tie.Need-other-seen-requires-2
 unfolding Formed
 other-seen-requires-2 c κs = let p = c .before .before .before in
     subst (Formed (p .before .before .args .s .now)) (c .before .key3 .given .1) (p .plain-entry .ensures) .0 .holds .ends
 
-enum-known-key-4 : tie.Need-enum-known-key-4
-enum-known-key-4 c = search needs
-
 other-seen-requires-3 : tie.Need-other-seen-requires-3
 unfolding Formed
 other-seen-requires-3 c κs = let p = c .before .before .before in
     subst (Formed (p .before .before .args .s .now)) (c .before .key4 .given .1) (p .plain-entry .ensures) .0 .holds .ends
-
-enum-told : tie.Need-enum-told
-enum-told c = search needs
 
 returns : tie.Need-returns
 unfolding Formed entry lastFrom among bytesOf valueOf isSet
@@ -80,16 +62,16 @@ pub entry-seen-spec : {M : Type 1} → statement M
 entry-seen-spec =
     tie.close
     (tie.spec
-    plain-entry-requires
-    enum-known-key
+    (λ c κs. search needs)
+    (λ c. search needs)
     other-seen-requires
-    enum-known-key-2
+    (λ c. search needs)
     string-seen-requires
-    enum-known-key-3
+    (λ c. search needs)
     other-seen-requires-2
-    enum-known-key-4
+    (λ c. search needs)
     other-seen-requires-3
-    enum-told
+    (λ c. search needs)
     returns
     returns-2
     returns-3

@@ -7,21 +7,9 @@ use borrow.Author.Needs.{needs}
 use Rattle.session_fast_accept.proofs.key_number.Statement.{statement}
 use Rattle.session_fast_accept.proofs.key_number.Tie as tie
 
-slice-aggregate-same : tie.Need-slice-aggregate-same
-slice-aggregate-same c = search needs
-
-same-requires : tie.Need-same-requires
-same-requires c κs = search needs
-
 returns : tie.Need-returns
 unfolding keyBytes
 returns c = key-is _ 0 (lit≤ tt) (key-there _ 0 (lit≤ tt) (sym (c .before .same .ensures) ∙ c .if2 .taken))
-
-slice-aggregate-same-2 : tie.Need-slice-aggregate-same-2
-slice-aggregate-same-2 c = search needs
-
-same-requires-2 : tie.Need-same-requires-2
-same-requires-2 c κs = search needs
 
 returns-2 : tie.Need-returns-2
 unfolding keyBytes
@@ -32,21 +20,9 @@ unfolding keyBytes
 returns-3 c = let a = c .before .before .before .before .before .before .before .before .args .a .now in
     key-is a 4 (lit≤ tt) (key-other a (sym (c .before .before .before .before .same .ensures) ∙ c .before .before .before .if2 .left) (sym (c .before .same2 .ensures) ∙ c .if3 .left) (key-length a 2 10 refl (λ e. omega (arith, c .before .before .before .before .before .before .if1 .taken))) (key-length a 3 10 refl (λ e. omega (arith, c .before .before .before .before .before .before .if1 .taken))))
 
-slice-aggregate-same-3 : tie.Need-slice-aggregate-same-3
-slice-aggregate-same-3 c = search needs
-
-same-requires-3 : tie.Need-same-requires-3
-same-requires-3 c κs = search needs
-
 returns-4 : tie.Need-returns-4
 unfolding keyBytes
 returns-4 c = key-is _ 2 (lit≤ tt) (key-there _ 2 (lit≤ tt) (sym (c .before .same3 .ensures) ∙ c .if5 .taken))
-
-slice-aggregate-same-4 : tie.Need-slice-aggregate-same-4
-slice-aggregate-same-4 c = search needs
-
-same-requires-4 : tie.Need-same-requires-4
-same-requires-4 c κs = search needs
 
 returns-5 : tie.Need-returns-5
 unfolding keyBytes
@@ -66,18 +42,18 @@ pub key-number-spec : {M : Type 1} → statement M
 key-number-spec =
     tie.close
     (tie.spec
-    slice-aggregate-same
-    same-requires
+    (λ c. search needs)
+    (λ c κs. search needs)
     returns
-    slice-aggregate-same-2
-    same-requires-2
+    (λ c. search needs)
+    (λ c κs. search needs)
     returns-2
     returns-3
-    slice-aggregate-same-3
-    same-requires-3
+    (λ c. search needs)
+    (λ c κs. search needs)
     returns-4
-    slice-aggregate-same-4
-    same-requires-4
+    (λ c. search needs)
+    (λ c κs. search needs)
     returns-5
     returns-6
     returns-7)

@@ -3,11 +3,8 @@ use borrow.Author.Needs.{needs}
 use Rattle.wire.proofs.client_message.Statement.{statement}
 use Rattle.wire.proofs.client_message.Tie as tie
 
-client-requires : tie.Need-client-requires
-client-requires c κs = search needs
-
 returns : tie.Need-returns
 returns c = (c .client .ensures, rw (c .client .ensures) (client-means (c .before .before .args .s .now)))
 
 pub client-message-spec : {M : Type 1} → statement M
-client-message-spec = tie.close (tie.spec client-requires returns)
+client-message-spec = tie.close (tie.spec (λ c κs. search needs) returns)

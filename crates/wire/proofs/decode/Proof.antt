@@ -4,18 +4,6 @@ use borrow.Author.Needs.{needs}
 use Rattle.wire.proofs.decode.Statement.{statement}
 use Rattle.wire.proofs.decode.Tie as tie
 
-check-requires : tie.Need-check-requires
-check-requires c κs = search needs
-
-enum-known-refusal : tie.Need-enum-known-refusal
-enum-known-refusal c = search needs
-
-enum-told : tie.Need-enum-told
-enum-told c = search needs
-
-no-member-requires : tie.Need-no-member-requires
-no-member-requires c κs = search needs
-
 returns : tie.Need-returns
 unfolding decodeNumber checkNumber
 returns c = rw (sym (c .before .before .before .before .check .ensures) ∙ c .before .before .enum-told .given .1, sym (c .before .no-member .ensures) ∙ c .if1 .taken)
@@ -32,10 +20,10 @@ pub decode-spec : {M : Type 1} → statement M
 decode-spec =
     tie.close
     (tie.spec
-    check-requires
-    enum-known-refusal
-    enum-told
-    no-member-requires
+    (λ c κs. search needs)
+    (λ c. search needs)
+    (λ c. search needs)
+    (λ c κs. search needs)
     returns
     returns-2
     returns-3)

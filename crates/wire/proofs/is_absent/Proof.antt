@@ -5,18 +5,6 @@ use borrow.Author.Needs.{needs}
 use Rattle.wire.proofs.is_absent.Statement.{statement}
 use Rattle.wire.proofs.is_absent.Tie as tie
 
-last-in-requires : tie.Need-last-in-requires
-last-in-requires c κs = search needs
-
-enum-told : tie.Need-enum-told
-enum-told c = search needs
-
-enum-told-2 : tie.Need-enum-told-2
-enum-told-2 c = search needs
-
-enum-told-3 : tie.Need-enum-told-3
-enum-told-3 c = search needs
-
 returns : tie.Need-returns
 unfolding isAbsent
 returns c = let a = c .before .before .before .before .args in rw (← last-means (a .s .now) (a .lo) (a .hi), sym (c .before .before .last-in .ensures) ∙ c .enum-told .given .1)
@@ -32,4 +20,4 @@ returns-3 c = let a = c .before .before .before .before .args in rw (← last-me
 pub is-absent-spec : {M : Type 1} → statement M
 is-absent-spec =
     tie.close
-    (tie.spec last-in-requires enum-told enum-told-2 enum-told-3 returns returns-2 returns-3)
+    (tie.spec (λ c κs. search needs) (λ c. search needs) (λ c. search needs) (λ c. search needs) returns returns-2 returns-3)

@@ -4,15 +4,9 @@ use borrow.Author.Needs.{needs}
 use Rattle.wire.proofs.no_member.Statement.{statement}
 use Rattle.wire.proofs.no_member.Tie as tie
 
-is-absent-requires : tie.Need-is-absent-requires
-is-absent-requires c κs = search needs
-
 returns : tie.Need-returns
 unfolding noMember
 returns c = rw (eq-eqb _ _ (c .before .if1 .taken)) (c .is-absent .ensures)
-
-is-absent-requires-2 : tie.Need-is-absent-requires-2
-is-absent-requires-2 c κs = search needs
 
 returns-2 : tie.Need-returns-2
 unfolding noMember
@@ -24,4 +18,4 @@ returns-3 c = rw (ne-eqb _ _ (c .before .if1 .left), ne-eqb _ _ (c .if2 .left))
 
 pub no-member-spec : {M : Type 1} → statement M
 no-member-spec =
-    tie.close (tie.spec is-absent-requires returns is-absent-requires-2 returns-2 returns-3)
+    tie.close (tie.spec (λ c κs. search needs) returns (λ c κs. search needs) returns-2 returns-3)

@@ -6,27 +6,6 @@ use borrow.Author.Needs.{needs}
 use Rattle.wire.proofs.server_message.Statement.{statement}
 use Rattle.wire.proofs.server_message.Tie as tie
 
-check-requires : tie.Need-check-requires
-check-requires c κs = search needs
-
-enum-known-refusal : tie.Need-enum-known-refusal
-enum-known-refusal c = search needs
-
-enum-told : tie.Need-enum-told
-enum-told c = search needs
-
-last-in-requires : tie.Need-last-in-requires
-last-in-requires c κs = search needs
-
-enum-told-2 : tie.Need-enum-told-2
-enum-told-2 c = search needs
-
-enum-told-3 : tie.Need-enum-told-3
-enum-told-3 c = search needs
-
-enum-known-number : tie.Need-enum-known-number
-enum-known-number c = search needs
-
 returns : tie.Need-returns
 unfolding serverValue serverMessage after member
 returns c = rw (sym (c .before .before .before .check .ensures) ∙ c .before .refusal .given .1)
@@ -47,13 +26,13 @@ pub server-message-spec : {M : Type 1} → statement M
 server-message-spec =
     tie.close
     (tie.spec
-    check-requires
-    enum-known-refusal
-    enum-told
-    last-in-requires
-    enum-told-2
-    enum-told-3
-    enum-known-number
+    (λ c κs. search needs)
+    (λ c. search needs)
+    (λ c. search needs)
+    (λ c κs. search needs)
+    (λ c. search needs)
+    (λ c. search needs)
+    (λ c. search needs)
     returns
     returns-2
     returns-3

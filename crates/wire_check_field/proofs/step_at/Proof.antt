@@ -5,36 +5,9 @@ use borrow.Author.Needs.{needs}
 use Rattle.wire_check_field.proofs.step_at.Statement.{statement}
 use Rattle.wire_check_field.proofs.step_at.Tie as tie
 
-number-at-requires : tie.Need-number-at-requires
-number-at-requires c κs = search needs
-
-step-of-requires : tie.Need-step-of-requires
-step-of-requires c κs = search needs
-
 returns : tie.Need-returns
 unfolding stepAt
 returns c = rw (eq-eqb _ _ (c .before .before .if1 .taken), ← c .before .number-at .ensures) (c .step-of .ensures)
-
-tag-at-requires : tie.Need-tag-at-requires
-tag-at-requires c κs = search needs
-
-enum-known-refusal : tie.Need-enum-known-refusal
-enum-known-refusal c = search needs
-
-enum-known-number : tie.Need-enum-known-number
-enum-known-number c = search needs
-
-kind-of-requires : tie.Need-kind-of-requires
-kind-of-requires c κs = search needs
-
-takes-requires : tie.Need-takes-requires
-takes-requires c κs = search needs
-
-payload-at-requires : tie.Need-payload-at-requires
-payload-at-requires c κs = search needs
-
-step-of-requires-2 : tie.Need-step-of-requires-2
-step-of-requires-2 c κs = search needs
 
 returns-2 : tie.Need-returns-2
 unfolding stepAt stepFrom
@@ -65,16 +38,16 @@ pub step-at-spec : {M : Type 1} → statement M
 step-at-spec =
     tie.close
     (tie.spec
-    number-at-requires
-    step-of-requires
+    (λ c κs. search needs)
+    (λ c κs. search needs)
     returns
-    tag-at-requires
-    enum-known-refusal
-    enum-known-number
-    kind-of-requires
-    takes-requires
-    payload-at-requires
-    step-of-requires-2
+    (λ c κs. search needs)
+    (λ c. search needs)
+    (λ c. search needs)
+    (λ c κs. search needs)
+    (λ c κs. search needs)
+    (λ c κs. search needs)
+    (λ c κs. search needs)
     returns-2
     returns-3
     returns-4)

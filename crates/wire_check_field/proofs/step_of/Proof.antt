@@ -4,18 +4,6 @@ use borrow.Author.Needs.{needs}
 use Rattle.wire_check_field.proofs.step_of.Statement.{statement}
 use Rattle.wire_check_field.proofs.step_of.Tie as tie
 
-enum-known-p : tie.Need-enum-known-p
-enum-known-p c = search needs
-
-enum-known-p-2 : tie.Need-enum-known-p-2
-enum-known-p-2 c = search needs
-
-enum-known-p-3 : tie.Need-enum-known-p-3
-enum-known-p-3 c = search needs
-
-enum-known-p-4 : tie.Need-enum-known-p-4
-enum-known-p-4 c = search needs
-
 returns : tie.Need-returns
 unfolding stepOf
 returns c = rw (c .before .p .given .1)
@@ -40,10 +28,10 @@ pub step-of-spec : {M : Type 1} → statement M
 step-of-spec =
     tie.close
     (tie.spec
-    enum-known-p
-    enum-known-p-2
-    enum-known-p-3
-    enum-known-p-4
+    (λ c. search needs)
+    (λ c. search needs)
+    (λ c. search needs)
+    (λ c. search needs)
     returns
     returns-2
     returns-3

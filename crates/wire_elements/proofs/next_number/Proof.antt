@@ -6,30 +6,6 @@ use Rattle.wire_elements.proofs.Numbers.{at-cursor, at-value}
 use Rattle.wire_elements.proofs.next_number.Statement.{statement}
 use Rattle.wire_elements.proofs.next_number.Tie as tie
 
-packed-at-requires : tie.Need-packed-at-requires
-packed-at-requires c κs = search needs
-
-enum-known-value : tie.Need-enum-known-value
-enum-known-value c = search needs
-
-enum-told : tie.Need-enum-told
-enum-told c = search needs
-
-resumed-requires : tie.Need-resumed-requires
-resumed-requires c κs = search needs
-
-number-from-requires : tie.Need-number-from-requires
-number-from-requires c κs = search needs
-
-enum-told-2 : tie.Need-enum-told-2
-enum-told-2 c = search needs
-
-resumed-requires-2 : tie.Need-resumed-requires-2
-resumed-requires-2 c κs = search needs
-
-number-from-requires-2 : tie.Need-number-from-requires-2
-number-from-requires-2 c κs = search needs
-
 returns : tie.Need-returns
 returns c = at-value _ _ _ _ _ (sym (c .before .before .before .packed-at .ensures) ∙ c .before .value .given .1)
 
@@ -51,14 +27,14 @@ pub next-number-spec : {M : Type 1} → statement M
 next-number-spec =
     tie.close
     (tie.spec
-    packed-at-requires
-    enum-known-value
-    enum-told
-    resumed-requires
-    number-from-requires
-    enum-told-2
-    resumed-requires-2
-    number-from-requires-2
+    (λ c κs. search needs)
+    (λ c. search needs)
+    (λ c. search needs)
+    (λ c κs. search needs)
+    (λ c κs. search needs)
+    (λ c. search needs)
+    (λ c κs. search needs)
+    (λ c κs. search needs)
     returns
     returns-2
     returns-3)

@@ -26,12 +26,6 @@ after c x e =
 loop-holds : tie.Need-loop-holds Inv-loop μ-loop
 loop-holds c = refl
 
-field-at-requires : tie.Need-field-at-requires Inv-loop μ-loop
-field-at-requires c κs = search needs
-
-enum-known-number : tie.Need-enum-known-number Inv-loop μ-loop
-enum-known-number c = search needs
-
 returns : tie.Need-returns Inv-loop μ-loop
 unfolding onField
 returns c =
@@ -44,9 +38,6 @@ loop-again : tie.Need-loop-again Inv-loop μ-loop
 unfolding onField numbersOf
 loop-again c = rw (ne-eqb _ _ (c .if1 .left)) at (after (c .before .before .before .before) _ (c .before .before .number .given .1) .1)
 
-enum-known-next : tie.Need-enum-known-next Inv-loop μ-loop
-enum-known-next c = search needs
-
 loop-less-2 : tie.Need-loop-less-2 Inv-loop μ-loop
 loop-less-2 c = let h = after (c .before .before .before) _ (c .before .next .given .1) .0 in omega arith
 
@@ -54,23 +45,11 @@ loop-again-2 : tie.Need-loop-again-2 Inv-loop μ-loop
 unfolding onField numbersOf
 loop-again-2 c = after (c .before .before .before) _ (c .before .next .given .1) .1
 
-enum-known-number-2 : tie.Need-enum-known-number-2 Inv-loop μ-loop
-enum-known-number-2 c = search needs
-
-packed-in-requires : tie.Need-packed-in-requires Inv-loop μ-loop
-packed-in-requires c κs = search needs
-
-enum-known-value : tie.Need-enum-known-value Inv-loop μ-loop
-enum-known-value c = search needs
-
 returns-2 : tie.Need-returns-2 Inv-loop μ-loop
 unfolding onField
 returns-2 c = let p = c .before .before .before in
     part-value _ _ _ _ _ _ (sym (p .packed-in .ensures) ∙ c .before .value .given .1)
     ∙ after (p .before .before .before .before) _ (p .before .before .number2 .given .1) .1
-
-enum-told : tie.Need-enum-told Inv-loop μ-loop
-enum-told c = search needs
 
 loop-less-3 : tie.Need-loop-less-3 Inv-loop μ-loop
 loop-less-3 c = let p = c .before .before in
@@ -83,9 +62,6 @@ loop-again-3 c = let p = c .before .before in
     at-part _ _ _ _ _ (sym (p .packed-in .ensures) ∙ c .enum-told .given .1)
     ∙ after (p .before .before .before .before) _ (p .before .before .number2 .given .1) .1
 
-enum-told-2 : tie.Need-enum-told-2 Inv-loop μ-loop
-enum-told-2 c = search needs
-
 loop-less-4 : tie.Need-loop-less-4 Inv-loop μ-loop
 loop-less-4 c = let p = c .before .before in
     let h = after (p .before .before .before .before) _ (p .before .before .number2 .given .1) .0 in
@@ -96,9 +72,6 @@ unfolding onField onVarint
 loop-again-4 c = let p = c .before .before in
     at-part _ _ _ _ _ (sym (p .packed-in .ensures) ∙ c .enum-told2 .given .1)
     ∙ after (p .before .before .before .before) _ (p .before .before .number2 .given .1) .1
-
-enum-told-3 : tie.Need-enum-told-3 Inv-loop μ-loop
-enum-told-3 c = search needs
 
 returns-3 : tie.Need-returns-3 Inv-loop μ-loop
 unfolding onField numbersOf told
@@ -115,24 +88,24 @@ number-from-spec =
     Inv-loop
     μ-loop
     loop-holds
-    field-at-requires
-    enum-known-number
+    (λ c κs. search needs)
+    (λ c. search needs)
     returns
     loop-less
     loop-again
-    enum-known-next
+    (λ c. search needs)
     loop-less-2
     loop-again-2
-    enum-known-number-2
-    packed-in-requires
-    enum-known-value
+    (λ c. search needs)
+    (λ c κs. search needs)
+    (λ c. search needs)
     returns-2
-    enum-told
+    (λ c. search needs)
     loop-less-3
     loop-again-3
-    enum-told-2
+    (λ c. search needs)
     loop-less-4
     loop-again-4
-    enum-told-3
+    (λ c. search needs)
     returns-3
     returns-4)

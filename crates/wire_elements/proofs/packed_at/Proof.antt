@@ -7,19 +7,10 @@ use Rattle.wire_elements.proofs.packed_at.Tie as tie
 slice-aggregate-varint-at : tie.Need-slice-aggregate-varint-at
 slice-aggregate-varint-at c = sym (length-take-le _ _ (search needs))
 
-varint-at-requires : tie.Need-varint-at-requires
-varint-at-requires c κs = search needs
-
-returns : tie.Need-returns
-returns c = search needs
-
-varint-at-requires-2 : tie.Need-varint-at-requires-2
-varint-at-requires-2 c κs = search needs
-
 returns-2 : tie.Need-returns-2
 returns-2 c = rw (take-all _ _ (c .before .if1 .left)) (c .varint-at2 .ensures)
 
 pub packed-at-spec : {M : Type 1} → statement M
 packed-at-spec =
     tie.close
-    (tie.spec slice-aggregate-varint-at varint-at-requires returns varint-at-requires-2 returns-2)
+    (tie.spec slice-aggregate-varint-at (λ c κs. search needs) (λ c. search needs) (λ c κs. search needs) returns-2)

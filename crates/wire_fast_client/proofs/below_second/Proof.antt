@@ -4,15 +4,6 @@ use borrow.Author.Needs.{needs}
 use Rattle.wire_fast_client.proofs.below_second.Statement.{statement}
 use Rattle.wire_fast_client.proofs.below_second.Tie as tie
 
-nanos-at-requires : tie.Need-nanos-at-requires
-nanos-at-requires c κs = search needs
-
-enum-known-value : tie.Need-enum-known-value
-enum-known-value c = search needs
-
-enum-told : tie.Need-enum-told
-enum-told c = search needs
-
 returns : tie.Need-returns
 returns c = only-nanos _ _ (c .before .before .before .nanos-at .ensures) _ (c .before .value .given .1)
 
@@ -22,4 +13,4 @@ returns-2 c = tt
 
 pub below-second-spec : {M : Type 1} → statement M
 below-second-spec =
-    tie.close (tie.spec nanos-at-requires enum-known-value enum-told returns returns-2)
+    tie.close (tie.spec (λ c κs. search needs) (λ c. search needs) (λ c. search needs) returns returns-2)

@@ -11,18 +11,6 @@ returns : tie.Need-returns
 unfolding Tailed
 returns c = c .if1 .taken
 
-has-tag-requires : tie.Need-has-tag-requires
-has-tag-requires c κs = search needs
-
-add-part-found : tie.Need-add-part-found
-add-part-found c = search needs
-
-part-found-requires : tie.Need-part-found-requires
-part-found-requires c κs = search needs
-
-enum-known-start : tie.Need-enum-known-start
-enum-known-start c = search needs
-
 returns-2 : tie.Need-returns-2
 unfolding Tailed
 returns-2 c = (tag-there _ _ _ (sym (c .before .before .before .before .before .before .has-tag .ensures) ∙ c .before .before .before .before .before .if2 .taken) (omega arith), found-part _ _ _ (c .before .before .before .before .part-found .ensures) _ _ (c .before .before .start .given .1), c .if3 .taken)
@@ -30,9 +18,6 @@ returns-2 c = (tag-there _ _ _ (sym (c .before .before .before .before .before .
 returns-3 : tie.Need-returns-3
 unfolding Tailed
 returns-3 c = tt
-
-enum-told : tie.Need-enum-told
-enum-told c = search needs
 
 returns-4 : tie.Need-returns-4
 unfolding Tailed
@@ -47,12 +32,12 @@ data-at-spec =
     tie.close
     (tie.spec
     returns
-    has-tag-requires
-    add-part-found
-    part-found-requires
-    enum-known-start
+    (λ c κs. search needs)
+    (λ c. search needs)
+    (λ c κs. search needs)
+    (λ c. search needs)
     returns-2
     returns-3
-    enum-told
+    (λ c. search needs)
     returns-4
     returns-5)

@@ -15,21 +15,6 @@ part-plain-time-start c = let z = delay-lies _ (c .before .pre .0) _ _ (c .befor
 part-plain-time-end : tie.Need-part-plain-time-end
 part-plain-time-end c = let z = delay-lies _ (c .before .pre .0) _ _ (c .before .pre .1) in omega arith
 
-plain-time-requires : tie.Need-plain-time-requires
-plain-time-requires c κs = search needs
-
-enum-known-seconds : tie.Need-enum-known-seconds
-enum-known-seconds c = search needs
-
-data-at-requires : tie.Need-data-at-requires
-data-at-requires c κs = search needs
-
-with-data-requires : tie.Need-with-data-requires
-with-data-requires c κs = search needs
-
-enum-told : tie.Need-enum-told
-enum-told c = search needs
-
 returns : tie.Need-returns
 returns c = subst (IoSaid (c .before .before .before .before .before .before .before .before .args .s .now)) (sym (c .with-data .ensures)) (delay-data _ (c .before .before .before .before .before .before .before .before .pre .0) _ _ (c .before .before .before .before .before .before .before .before .pre .1) _ (c .before .before .before .before .before .plain-time .ensures) _ _ (c .before .before .before .seconds .given .1) _ (c .before .data-at .ensures))
 
@@ -44,10 +29,10 @@ from-delay-spec =
     sub-plain-time
     part-plain-time-start
     part-plain-time-end
-    plain-time-requires
-    enum-known-seconds
-    data-at-requires
-    with-data-requires
-    enum-told
+    (λ c κs. search needs)
+    (λ c. search needs)
+    (λ c κs. search needs)
+    (λ c κs. search needs)
+    (λ c. search needs)
     returns
     returns-2)

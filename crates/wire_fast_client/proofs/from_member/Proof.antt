@@ -11,23 +11,11 @@ sub-plain-io c = member-lies _ _ (c .before .pre .0 .0) (c .before .pre .0 .1) _
 part-plain-io-start : tie.Need-part-plain-io-start
 part-plain-io-start c = let z = member-lies _ _ (c .before .pre .0 .0) (c .before .pre .0 .1) _ _ (c .before .pre .1 .0) in omega arith
 
-part-plain-io-end : tie.Need-part-plain-io-end
-part-plain-io-end c = search needs
-
-plain-io-requires : tie.Need-plain-io-requires
-plain-io-requires c κs = search needs
-
-enum-known-seconds : tie.Need-enum-known-seconds
-enum-known-seconds c = search needs
-
 add-t16 : tie.Need-add-t16
 add-t16 c = let w = member-within _ _ (c .before .before .before .before .before .before .pre .0 .0) (c .before .before .before .before .before .before .pre .0 .1) _ _ (c .before .before .before .before .before .before .pre .1 .0) _ (c .before .before .before .plain-io .ensures) _ _ _ _ (c .before .seconds .given .1) in omega (arith, w .0, c .before .before .before .before .before .before .good .0)
 
 add-t17 : tie.Need-add-t17
 add-t17 c = let w = member-within _ _ (c .before .before .before .before .before .before .pre .0 .0) (c .before .before .before .before .before .before .pre .0 .1) _ _ (c .before .before .before .before .before .before .pre .1 .0) _ (c .before .before .before .plain-io .ensures) _ _ _ _ (c .before .seconds .given .1) in omega (arith, w .1, c .before .before .before .before .before .before .good .0)
-
-enum-told : tie.Need-enum-told
-enum-told c = search needs
 
 returns : tie.Need-returns
 returns c = member-io _ _ (c .before .before .before .before .before .before .pre .0 .0) (c .before .before .before .before .before .before .pre .0 .1) _ _ (c .before .before .before .before .before .before .pre .1 .0) (c .before .before .before .before .before .before .pre .1 .1) _ (c .before .before .before .plain-io .ensures) _ _ _ _ (c .before .seconds .given .1)
@@ -42,11 +30,11 @@ from-member-spec =
     (tie.spec
     sub-plain-io
     part-plain-io-start
-    part-plain-io-end
-    plain-io-requires
-    enum-known-seconds
+    (λ c. search needs)
+    (λ c κs. search needs)
+    (λ c. search needs)
     add-t16
     add-t17
-    enum-told
+    (λ c. search needs)
     returns
     returns-2)

@@ -4,12 +4,6 @@ use borrow.Author.Needs.{needs}
 use Rattle.wire_fast_client.proofs.has_tag.Statement.{statement}
 use Rattle.wire_fast_client.proofs.has_tag.Tie as tie
 
-shared-slice-read-wide : tie.Need-shared-slice-read-wide
-shared-slice-read-wide c = search needs
-
-wide-requires : tie.Need-wide-requires
-wide-requires c κs = search needs
-
 returns : tie.Need-returns
 unfolding byteIs
 returns c = rw (c .wide .ensures, lt-ltb _ _ (c .before .before .if1 .taken))
@@ -19,4 +13,4 @@ unfolding byteIs
 returns-2 c = rw (le-ltb _ _ (c .if1 .left))
 
 pub has-tag-spec : {M : Type 1} → statement M
-has-tag-spec = tie.close (tie.spec shared-slice-read-wide wide-requires returns returns-2)
+has-tag-spec = tie.close (tie.spec (λ c. search needs) (λ c κs. search needs) returns returns-2)

@@ -9,17 +9,8 @@ use borrow.Author.Needs.{needs}
 use Rattle.wire_fast_client.proofs.nanos_at.Statement.{statement}
 use Rattle.wire_fast_client.proofs.nanos_at.Tie as tie
 
-has-tag-requires : tie.Need-has-tag-requires
-has-tag-requires c κs = search needs
-
 add-varint-at : tie.Need-add-varint-at
 add-varint-at c = let h = (tag-there _ _ _ (sym (c .before .has-tag .ensures) ∙ c .if1 .taken) (omega arith)) .within in omega (arith, h, c .before .before .before .good .0)
-
-varint-at-requires : tie.Need-varint-at-requires
-varint-at-requires c κs = search needs
-
-enum-known-value : tie.Need-enum-known-value
-enum-known-value c = search needs
 
 returns : tie.Need-returns
 unfolding Ends
@@ -29,15 +20,9 @@ returns-2 : tie.Need-returns-2
 unfolding Ends
 returns-2 c = tt
 
-enum-told : tie.Need-enum-told
-enum-told c = search needs
-
 returns-3 : tie.Need-returns-3
 unfolding Ends
 returns-3 c = tt
-
-enum-told-2 : tie.Need-enum-told-2
-enum-told-2 c = search needs
 
 returns-4 : tie.Need-returns-4
 unfolding Ends
@@ -51,14 +36,14 @@ pub nanos-at-spec : {M : Type 1} → statement M
 nanos-at-spec =
     tie.close
     (tie.spec
-    has-tag-requires
+    (λ c κs. search needs)
     add-varint-at
-    varint-at-requires
-    enum-known-value
+    (λ c κs. search needs)
+    (λ c. search needs)
     returns
     returns-2
-    enum-told
+    (λ c. search needs)
     returns-3
-    enum-told-2
+    (λ c. search needs)
     returns-4
     returns-5)

@@ -14,21 +14,6 @@ returns : tie.Need-returns
 unfolding ClientSaid
 returns c = tt
 
-shared-slice-read-wide : tie.Need-shared-slice-read-wide
-shared-slice-read-wide c = search needs
-
-wide-requires : tie.Need-wide-requires
-wide-requires c κs = search needs
-
-is-io-requires : tie.Need-is-io-requires
-is-io-requires c κs = search needs
-
-part-found-requires : tie.Need-part-found-requires
-part-found-requires c κs = search needs
-
-enum-known-start : tie.Need-enum-known-start
-enum-known-start c = search needs
-
 from-member-requires : tie.Need-from-member-requires
 from-member-requires c κs = let p = c .before .before .before .before in
     let io = p .before .before in
@@ -37,15 +22,9 @@ from-member-requires c κs = let p = c .before .before .before .before in
     let i : 0 < length (w .before .before .before .before .args .s .now) = omega (arith, w .before .before .if1 .left) in
     ((tag, record { within = i; tagged = one-byte _ 0 _ i (sym (w .wide .ensures)) (omega (arith, tag .most)) }), (found-part _ _ _ (p .part-found .ensures) _ _ (c .before .before .start .given .1), c .if3 .taken))
 
-returns-2 : tie.Need-returns-2
-returns-2 c = search needs
-
 returns-3 : tie.Need-returns-3
 unfolding ClientSaid
 returns-3 c = tt
-
-enum-told : tie.Need-enum-told
-enum-told c = search needs
 
 returns-4 : tie.Need-returns-4
 unfolding ClientSaid
@@ -60,14 +39,14 @@ plain-client-spec =
     tie.close
     (tie.spec
     returns
-    shared-slice-read-wide
-    wide-requires
-    is-io-requires
-    part-found-requires
-    enum-known-start
+    (λ c. search needs)
+    (λ c κs. search needs)
+    (λ c κs. search needs)
+    (λ c κs. search needs)
+    (λ c. search needs)
     from-member-requires
-    returns-2
+    (λ c. search needs)
     returns-3
-    enum-told
+    (λ c. search needs)
     returns-4
     returns-5)

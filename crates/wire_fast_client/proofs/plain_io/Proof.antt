@@ -7,23 +7,8 @@ use borrow.Author.Needs.{needs}
 use Rattle.wire_fast_client.proofs.plain_io.Statement.{statement}
 use Rattle.wire_fast_client.proofs.plain_io.Tie as tie
 
-has-tag-requires : tie.Need-has-tag-requires
-has-tag-requires c κs = search needs
-
-part-found-requires : tie.Need-part-found-requires
-part-found-requires c κs = search needs
-
-enum-known-start : tie.Need-enum-known-start
-enum-known-start c = search needs
-
 from-delay-requires : tie.Need-from-delay-requires
 from-delay-requires c κs = (tag-there _ _ _ (sym (c .before .before .before .before .before .has-tag .ensures) ∙ c .before .before .before .before .if1 .taken) (omega arith), found-part _ _ _ (c .before .before .before .part-found .ensures) _ _ (c .before .start .given .1))
-
-returns : tie.Need-returns
-returns c = search needs
-
-enum-told : tie.Need-enum-told
-enum-told c = search needs
 
 returns-2 : tie.Need-returns-2
 unfolding IoSaid
@@ -37,11 +22,11 @@ pub plain-io-spec : {M : Type 1} → statement M
 plain-io-spec =
     tie.close
     (tie.spec
-    has-tag-requires
-    part-found-requires
-    enum-known-start
+    (λ c κs. search needs)
+    (λ c κs. search needs)
+    (λ c. search needs)
     from-delay-requires
-    returns
-    enum-told
+    (λ c. search needs)
+    (λ c. search needs)
     returns-2
     returns-3)

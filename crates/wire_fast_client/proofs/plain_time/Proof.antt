@@ -6,11 +6,5 @@ use Rattle.wire_fast_client.proofs.plain_time.Tie as tie
 returns : tie.Need-returns
 returns c = empty-time _ (c .if1 .taken)
 
-from-seconds-requires : tie.Need-from-seconds-requires
-from-seconds-requires c κs = search needs
-
-returns-2 : tie.Need-returns-2
-returns-2 c = search needs
-
 pub plain-time-spec : {M : Type 1} → statement M
-plain-time-spec = tie.close (tie.spec returns from-seconds-requires returns-2)
+plain-time-spec = tie.close (tie.spec returns (λ c κs. search needs) (λ c. search needs))

@@ -5,15 +5,6 @@ use borrow.Author.Needs.{needs}
 use Rattle.wire_fast_client.proofs.with_data.Statement.{statement}
 use Rattle.wire_fast_client.proofs.with_data.Tie as tie
 
-enum-known-tail : tie.Need-enum-known-tail
-enum-known-tail c = search needs
-
-enum-told : tie.Need-enum-told
-enum-told c = search needs
-
-enum-told-2 : tie.Need-enum-told-2
-enum-told-2 c = search needs
-
 returns : tie.Need-returns
 unfolding withData
 returns c = let a = c .before .before .before .args in sym (ap (λ (t : Tail). withData (a .seconds) (a .nanos) t) (c .before .tail .given .1))
@@ -28,4 +19,4 @@ returns-3 c = let a = c .before .before .args in sym (ap (λ (t : Tail). withDat
 
 pub with-data-spec : {M : Type 1} → statement M
 with-data-spec =
-    tie.close (tie.spec enum-known-tail enum-told enum-told-2 returns returns-2 returns-3)
+    tie.close (tie.spec (λ c. search needs) (λ c. search needs) (λ c. search needs) returns returns-2 returns-3)

@@ -4,30 +4,6 @@ use borrow.Author.Needs.{needs}
 use Rattle.wire_fields.proofs.field_at.Statement.{statement}
 use Rattle.wire_fields.proofs.field_at.Tie as tie
 
-tag-at-requires : tie.Need-tag-at-requires
-tag-at-requires c κs = search needs
-
-enum-known-number : tie.Need-enum-known-number
-enum-known-number c = search needs
-
-payload-at-requires : tie.Need-payload-at-requires
-payload-at-requires c κs = search needs
-
-enum-known-value : tie.Need-enum-known-value
-enum-known-value c = search needs
-
-enum-known-next : tie.Need-enum-known-next
-enum-known-next c = search needs
-
-enum-known-start : tie.Need-enum-known-start
-enum-known-start c = search needs
-
-enum-told : tie.Need-enum-told
-enum-told c = search needs
-
-enum-told-2 : tie.Need-enum-told-2
-enum-told-2 c = search needs
-
 returns : tie.Need-returns
 unfolding fieldAt fieldFrom fieldOf
 returns c = let p = c .before .before .before in
@@ -60,14 +36,14 @@ pub field-at-spec : {M : Type 1} → statement M
 field-at-spec =
     tie.close
     (tie.spec
-    tag-at-requires
-    enum-known-number
-    payload-at-requires
-    enum-known-value
-    enum-known-next
-    enum-known-start
-    enum-told
-    enum-told-2
+    (λ c κs. search needs)
+    (λ c. search needs)
+    (λ c κs. search needs)
+    (λ c. search needs)
+    (λ c. search needs)
+    (λ c. search needs)
+    (λ c. search needs)
+    (λ c. search needs)
     returns
     returns-2
     returns-3

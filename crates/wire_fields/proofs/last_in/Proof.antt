@@ -36,15 +36,6 @@ after c x e =
 loop-holds : tie.Need-loop-holds Inv-loop μ-loop
 loop-holds c = (omega arith, refl)
 
-field-at-requires : tie.Need-field-at-requires Inv-loop μ-loop
-field-at-requires c κs = search needs
-
-later-requires : tie.Need-later-requires Inv-loop μ-loop
-later-requires c κs = search needs
-
-enum-known-e : tie.Need-enum-known-e Inv-loop μ-loop
-enum-known-e c = search needs
-
 loop-less : tie.Need-loop-less Inv-loop μ-loop
 loop-less c = let h = after (c .before .before .before) _ (c .before .e .given .1) .0 in omega arith
 
@@ -52,9 +43,6 @@ loop-again : tie.Need-loop-again Inv-loop μ-loop
 unfolding onField lastOf
 loop-again c = let h = after (c .before .before .before) _ (c .before .e .given .1) in
     (h .0 .1, rw (h .2) (h .1))
-
-enum-known-e-2 : tie.Need-enum-known-e-2 Inv-loop μ-loop
-enum-known-e-2 c = search needs
 
 loop-less-2 : tie.Need-loop-less-2 Inv-loop μ-loop
 loop-less-2 c = let h = after (c .before .before .before) _ (c .before .e2 .given .1) .0 in omega arith
@@ -64,9 +52,6 @@ unfolding onField lastOf
 loop-again-2 c = let h = after (c .before .before .before) _ (c .before .e2 .given .1) in
     (h .0 .1, rw (h .2) (h .1))
 
-enum-known-e-3 : tie.Need-enum-known-e-3 Inv-loop μ-loop
-enum-known-e-3 c = search needs
-
 loop-less-3 : tie.Need-loop-less-3 Inv-loop μ-loop
 loop-less-3 c = let h = after (c .before .before .before) _ (c .before .e3 .given .1) .0 in omega arith
 
@@ -74,9 +59,6 @@ loop-again-3 : tie.Need-loop-again-3 Inv-loop μ-loop
 unfolding onField lastOf
 loop-again-3 c = let h = after (c .before .before .before) _ (c .before .e3 .given .1) in
     (h .0 .2, rw (h .2) (h .1))
-
-enum-told : tie.Need-enum-told Inv-loop μ-loop
-enum-told c = search needs
 
 returns : tie.Need-returns Inv-loop μ-loop
 unfolding onField lastOf later
@@ -96,17 +78,17 @@ last-in-spec =
     Inv-loop
     μ-loop
     loop-holds
-    field-at-requires
-    later-requires
-    enum-known-e
+    (λ c κs. search needs)
+    (λ c κs. search needs)
+    (λ c. search needs)
     loop-less
     loop-again
-    enum-known-e-2
+    (λ c. search needs)
     loop-less-2
     loop-again-2
-    enum-known-e-3
+    (λ c. search needs)
     loop-less-3
     loop-again-3
-    enum-told
+    (λ c. search needs)
     returns
     returns-2)

@@ -4,31 +4,13 @@ use borrow.Author.Needs.{needs}
 use Rattle.wire_fields.proofs.later.Statement.{statement}
 use Rattle.wire_fields.proofs.later.Tie as tie
 
-enum-known-e : tie.Need-enum-known-e
-enum-known-e c = search needs
-
-among-requires : tie.Need-among-requires
-among-requires c κs = search needs
-
 returns : tie.Need-returns
 unfolding later
 returns c = rw (c .before .before .before .e .given .1, sym (c .before .among .ensures) ∙ c .if1 .taken)
 
-enum-told : tie.Need-enum-told
-enum-told c = search needs
-
-enum-known-e-2 : tie.Need-enum-known-e-2
-enum-known-e-2 c = search needs
-
-among-requires-2 : tie.Need-among-requires-2
-among-requires-2 c κs = search needs
-
 returns-2 : tie.Need-returns-2
 unfolding later
 returns-2 c = rw (c .before .before .before .e2 .given .1, sym (c .before .among2 .ensures) ∙ c .if2 .taken)
-
-enum-told-2 : tie.Need-enum-told-2
-enum-told-2 c = search needs
 
 returns-3 : tie.Need-returns-3
 unfolding later
@@ -50,14 +32,14 @@ pub later-spec : {M : Type 1} → statement M
 later-spec =
     tie.close
     (tie.spec
-    enum-known-e
-    among-requires
+    (λ c. search needs)
+    (λ c κs. search needs)
     returns
-    enum-told
-    enum-known-e-2
-    among-requires-2
+    (λ c. search needs)
+    (λ c. search needs)
+    (λ c κs. search needs)
     returns-2
-    enum-told-2
+    (λ c. search needs)
     returns-3
     returns-4
     returns-5

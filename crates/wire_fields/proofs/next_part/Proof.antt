@@ -35,12 +35,6 @@ after c x e =
 loop-holds : tie.Need-loop-holds Inv-loop μ-loop
 loop-holds c = refl
 
-field-at-requires : tie.Need-field-at-requires Inv-loop μ-loop
-field-at-requires c κs = search needs
-
-enum-known-next : tie.Need-enum-known-next Inv-loop μ-loop
-enum-known-next c = search needs
-
 loop-less : tie.Need-loop-less Inv-loop μ-loop
 loop-less c = let h = after (c .before .before .before) _ (c .before .next .given .1) .0 in omega arith
 
@@ -48,18 +42,12 @@ loop-again : tie.Need-loop-again Inv-loop μ-loop
 unfolding onField firstOf
 loop-again c = after (c .before .before .before) _ (c .before .next .given .1) .1
 
-enum-known-next-2 : tie.Need-enum-known-next-2 Inv-loop μ-loop
-enum-known-next-2 c = search needs
-
 loop-less-2 : tie.Need-loop-less-2 Inv-loop μ-loop
 loop-less-2 c = let h = after (c .before .before .before) _ (c .before .next2 .given .1) .0 in omega arith
 
 loop-again-2 : tie.Need-loop-again-2 Inv-loop μ-loop
 unfolding onField firstOf
 loop-again-2 c = after (c .before .before .before) _ (c .before .next2 .given .1) .1
-
-enum-known-found : tie.Need-enum-known-found Inv-loop μ-loop
-enum-known-found c = search needs
 
 returns : tie.Need-returns Inv-loop μ-loop
 unfolding onField firstOf
@@ -71,9 +59,6 @@ loop-less-3 c = let h = after (c .before .before .before .before) _ (c .before .
 loop-again-3 : tie.Need-loop-again-3 Inv-loop μ-loop
 unfolding onField firstOf
 loop-again-3 c = rw (ne-eqb _ _ (c .if1 .left)) at (after (c .before .before .before .before) _ (c .before .before .found .given .1) .1)
-
-enum-told : tie.Need-enum-told Inv-loop μ-loop
-enum-told c = search needs
 
 returns-2 : tie.Need-returns-2 Inv-loop μ-loop
 unfolding onField firstOf
@@ -90,17 +75,17 @@ next-part-spec =
     Inv-loop
     μ-loop
     loop-holds
-    field-at-requires
-    enum-known-next
+    (λ c κs. search needs)
+    (λ c. search needs)
     loop-less
     loop-again
-    enum-known-next-2
+    (λ c. search needs)
     loop-less-2
     loop-again-2
-    enum-known-found
+    (λ c. search needs)
     returns
     loop-less-3
     loop-again-3
-    enum-told
+    (λ c. search needs)
     returns-2
     returns-3)

@@ -4,21 +4,6 @@ use borrow.Author.Needs.{needs}
 use Rattle.wire_fields.proofs.part_found.Statement.{statement}
 use Rattle.wire_fields.proofs.part_found.Tie as tie
 
-part-at-requires : tie.Need-part-at-requires
-part-at-requires c κs = search needs
-
-enum-known-start : tie.Need-enum-known-start
-enum-known-start c = search needs
-
-enum-told : tie.Need-enum-told
-enum-told c = search needs
-
-enum-told-2 : tie.Need-enum-told-2
-enum-told-2 c = search needs
-
-enum-told-3 : tie.Need-enum-told-3
-enum-told-3 c = search needs
-
 returns : tie.Need-returns
 unfolding foundOf
 returns c = rw (sym (c .before .before .before .part-at .ensures) ∙ c .before .start .given .1)
@@ -39,11 +24,11 @@ pub part-found-spec : {M : Type 1} → statement M
 part-found-spec =
     tie.close
     (tie.spec
-    part-at-requires
-    enum-known-start
-    enum-told
-    enum-told-2
-    enum-told-3
+    (λ c κs. search needs)
+    (λ c. search needs)
+    (λ c. search needs)
+    (λ c. search needs)
+    (λ c. search needs)
     returns
     returns-2
     returns-3

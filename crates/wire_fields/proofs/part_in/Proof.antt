@@ -4,18 +4,6 @@ use borrow.Author.Needs.{needs}
 use Rattle.wire_fields.proofs.part_in.Statement.{statement}
 use Rattle.wire_fields.proofs.part_in.Tie as tie
 
-last-in-requires : tie.Need-last-in-requires
-last-in-requires c κs = search needs
-
-enum-told : tie.Need-enum-told
-enum-told c = search needs
-
-enum-told-2 : tie.Need-enum-told-2
-enum-told-2 c = search needs
-
-enum-known-start : tie.Need-enum-known-start
-enum-known-start c = search needs
-
 returns : tie.Need-returns
 unfolding startFrom endFrom
 returns c = rw (sym (c .before .before .last-in .ensures) ∙ c .enum-told .given .1)
@@ -31,4 +19,4 @@ returns-3 c = rw (sym (c .before .before .before .last-in .ensures) ∙ c .befor
 pub part-in-spec : {M : Type 1} → statement M
 part-in-spec =
     tie.close
-    (tie.spec last-in-requires enum-told enum-told-2 enum-known-start returns returns-2 returns-3)
+    (tie.spec (λ c κs. search needs) (λ c. search needs) (λ c. search needs) (λ c. search needs) returns returns-2 returns-3)

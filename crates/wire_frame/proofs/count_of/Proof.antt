@@ -3,15 +3,6 @@ use Rattle.wire_frame.specs.Frame.{countOf}
 use Rattle.wire_frame.proofs.count_of.Statement.{statement}
 use Rattle.wire_frame.proofs.count_of.Tie as tie
 
-enum-known-c : tie.Need-enum-known-c
-enum-known-c c = search needs
-
-enum-known-c-2 : tie.Need-enum-known-c-2
-enum-known-c-2 c = search needs
-
-enum-told : tie.Need-enum-told
-enum-told c = search needs
-
 returns : tie.Need-returns
 unfolding countOf
 returns c = rw (c .before .c .given .1)
@@ -26,4 +17,4 @@ returns-3 c = rw (c .enum-told .given .1)
 
 pub count-of-spec : {M : Type 1} → statement M
 count-of-spec =
-    tie.close (tie.spec enum-known-c enum-known-c-2 enum-told returns returns-2 returns-3)
+    tie.close (tie.spec (λ c. search needs) (λ c. search needs) (λ c. search needs) returns returns-2 returns-3)

@@ -5,15 +5,9 @@ use borrow.Author.Needs.{needs}
 use Rattle.wire_message.proofs.accept_in.Statement.{statement}
 use Rattle.wire_message.proofs.accept_in.Tie as tie
 
-time-in-requires : tie.Need-time-in-requires
-time-in-requires c κs = search needs
-
-flag-in-requires : tie.Need-flag-in-requires
-flag-in-requires c κs = search needs
-
 returns : tie.Need-returns
 unfolding acceptValue accept
 returns c = let s = c .before .before .before .args .s .now in rw (c .before .time-in .ensures, time-means 1 s, c .flag-in .ensures)
 
 pub accept-in-spec : {M : Type 1} → statement M
-accept-in-spec = tie.close (tie.spec time-in-requires flag-in-requires returns)
+accept-in-spec = tie.close (tie.spec (λ c κs. search needs) (λ c κs. search needs) returns)

@@ -5,15 +5,9 @@ use borrow.Author.Needs.{needs}
 use Rattle.wire_message.proofs.entry_in.Statement.{statement}
 use Rattle.wire_message.proofs.entry_in.Tie as tie
 
-part-in-requires : tie.Need-part-in-requires
-part-in-requires c κs = search needs
-
-value-in-requires : tie.Need-value-in-requires
-value-in-requires c κs = search needs
-
 returns : tie.Need-returns
 unfolding entryValue entry
 returns c = let s = c .before .before .before .args .s .now in rw (c .before .part-in .ensures, bytes-means s 1, c .value-in .ensures)
 
 pub entry-in-spec : {M : Type 1} → statement M
-entry-in-spec = tie.close (tie.spec part-in-requires value-in-requires returns)
+entry-in-spec = tie.close (tie.spec (λ c κs. search needs) (λ c κs. search needs) returns)

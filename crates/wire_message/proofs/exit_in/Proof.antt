@@ -7,21 +7,6 @@ use borrow.Author.Needs.{needs}
 use Rattle.wire_message.proofs.exit_in.Statement.{statement}
 use Rattle.wire_message.proofs.exit_in.Tie as tie
 
-time-in-requires : tie.Need-time-in-requires
-time-in-requires c κs = search needs
-
-number-in-requires : tie.Need-number-in-requires
-number-in-requires c κs = search needs
-
-flag-in-requires : tie.Need-flag-in-requires
-flag-in-requires c κs = search needs
-
-part-in-requires : tie.Need-part-in-requires
-part-in-requires c κs = search needs
-
-part-in-requires-2 : tie.Need-part-in-requires-2
-part-in-requires-2 c κs = search needs
-
 returns : tie.Need-returns
 unfolding exitValue exit
 returns c = let s = c .before .before .before .before .before .before .args .s .now in (
@@ -33,9 +18,9 @@ pub exit-in-spec : {M : Type 1} → statement M
 exit-in-spec =
     tie.close
     (tie.spec
-    time-in-requires
-    number-in-requires
-    flag-in-requires
-    part-in-requires
-    part-in-requires-2
+    (λ c κs. search needs)
+    (λ c κs. search needs)
+    (λ c κs. search needs)
+    (λ c κs. search needs)
+    (λ c κs. search needs)
     returns)

@@ -6,15 +6,9 @@ use borrow.Author.Needs.{needs}
 use Rattle.wire_message.proofs.report_in.Statement.{statement}
 use Rattle.wire_message.proofs.report_in.Tie as tie
 
-time-in-requires : tie.Need-time-in-requires
-time-in-requires c κs = search needs
-
-part-in-requires : tie.Need-part-in-requires
-part-in-requires c κs = search needs
-
 returns : tie.Need-returns
 unfolding reportValue report
 returns c = let s = c .before .before .before .args .s .now in rw (c .before .time-in .ensures, time-means 1 s, c .part-in .ensures, bytes-means s 2)
 
 pub report-in-spec : {M : Type 1} → statement M
-report-in-spec = tie.close (tie.spec time-in-requires part-in-requires returns)
+report-in-spec = tie.close (tie.spec (λ c κs. search needs) (λ c κs. search needs) returns)

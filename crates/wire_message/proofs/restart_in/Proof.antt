@@ -6,15 +6,9 @@ use borrow.Author.Needs.{needs}
 use Rattle.wire_message.proofs.restart_in.Statement.{statement}
 use Rattle.wire_message.proofs.restart_in.Tie as tie
 
-part-in-requires : tie.Need-part-in-requires
-part-in-requires c κs = search needs
-
-time-in-requires : tie.Need-time-in-requires
-time-in-requires c κs = search needs
-
 returns : tie.Need-returns
 unfolding restartValue restart
 returns c = let s = c .before .before .before .args .s .now in rw (c .before .part-in .ensures, bytes-means s 1, c .time-in .ensures, time-means 2 s)
 
 pub restart-in-spec : {M : Type 1} → statement M
-restart-in-spec = tie.close (tie.spec part-in-requires time-in-requires returns)
+restart-in-spec = tie.close (tie.spec (λ c κs. search needs) (λ c κs. search needs) returns)

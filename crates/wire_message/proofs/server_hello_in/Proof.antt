@@ -5,19 +5,10 @@ use borrow.Author.Needs.{needs}
 use Rattle.wire_message.proofs.server_hello_in.Statement.{statement}
 use Rattle.wire_message.proofs.server_hello_in.Tie as tie
 
-part-in-requires : tie.Need-part-in-requires
-part-in-requires c κs = search needs
-
-part-in-requires-2 : tie.Need-part-in-requires-2
-part-in-requires-2 c κs = search needs
-
-flag-in-requires : tie.Need-flag-in-requires
-flag-in-requires c κs = search needs
-
 returns : tie.Need-returns
 unfolding serverHelloValue serverHello
 returns c = let s = c .before .before .before .before .args .s .now in rw (c .before .before .part-in .ensures, bytes-means s 1, c .before .part-in2 .ensures, bytes-means s 2, c .flag-in .ensures)
 
 pub server-hello-in-spec : {M : Type 1} → statement M
 server-hello-in-spec =
-    tie.close (tie.spec part-in-requires part-in-requires-2 flag-in-requires returns)
+    tie.close (tie.spec (λ c κs. search needs) (λ c κs. search needs) (λ c κs. search needs) returns)

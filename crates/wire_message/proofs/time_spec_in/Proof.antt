@@ -5,15 +5,9 @@ use borrow.Author.Needs.{needs}
 use Rattle.wire_message.proofs.time_spec_in.Statement.{statement}
 use Rattle.wire_message.proofs.time_spec_in.Tie as tie
 
-number-in-requires : tie.Need-number-in-requires
-number-in-requires c κs = search needs
-
-number-in-requires-2 : tie.Need-number-in-requires-2
-number-in-requires-2 c κs = search needs
-
 returns : tie.Need-returns
 unfolding timeValue timeSpec
 returns c = let s = c .before .before .before .args .s .now in rw (c .before .number-in .ensures, c .number-in2 .ensures, number-means s 1, number-means s 2)
 
 pub time-spec-in-spec : {M : Type 1} → statement M
-time-spec-in-spec = tie.close (tie.spec number-in-requires number-in-requires-2 returns)
+time-spec-in-spec = tie.close (tie.spec (λ c κs. search needs) (λ c κs. search needs) returns)

@@ -7,18 +7,6 @@ use borrow.Author.Needs.{needs}
 use Rattle.wire_message.proofs.value_in.Statement.{statement}
 use Rattle.wire_message.proofs.value_in.Tie as tie
 
-last-in-requires : tie.Need-last-in-requires
-last-in-requires c κs = search needs
-
-enum-told : tie.Need-enum-told
-enum-told c = search needs
-
-enum-known-value : tie.Need-enum-known-value
-enum-known-value c = search needs
-
-enum-known-number : tie.Need-enum-known-number
-enum-known-number c = search needs
-
 returns : tie.Need-returns
 unfolding valueAt valueOf
 returns c = let s = c .before .before .before .before .before .before .args .s .now in rw (← last-means s 2 5, sym (c .before .before .before .before .last-in .ensures) ∙ c .before .before .number .given .1, eq-eqb _ _ (c .if1 .taken))
@@ -47,10 +35,10 @@ pub value-in-spec : {M : Type 1} → statement M
 value-in-spec =
     tie.close
     (tie.spec
-    last-in-requires
-    enum-told
-    enum-known-value
-    enum-known-number
+    (λ c κs. search needs)
+    (λ c. search needs)
+    (λ c. search needs)
+    (λ c. search needs)
     returns
     returns-2
     returns-3

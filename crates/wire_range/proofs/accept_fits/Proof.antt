@@ -5,12 +5,6 @@ use borrow.Author.Needs.{needs}
 use Rattle.wire_range.proofs.accept_fits.Statement.{statement}
 use Rattle.wire_range.proofs.accept_fits.Tie as tie
 
-date-in-requires : tie.Need-date-in-requires
-date-in-requires c κs = search needs
-
-entries-fit-requires : tie.Need-entries-fit-requires
-entries-fit-requires c κs = search needs
-
 returns : tie.Need-returns
 unfolding acceptFits accept
 returns c = rw (sym (c .before .before .date-in .ensures) ∙ c .before .if1 .taken) (c .entries-fit .ensures)
@@ -20,4 +14,4 @@ unfolding acceptFits accept
 returns-2 c = rw (sym (c .before .date-in .ensures) ∙ c .if1 .left)
 
 pub accept-fits-spec : {M : Type 1} → statement M
-accept-fits-spec = tie.close (tie.spec date-in-requires entries-fit-requires returns returns-2)
+accept-fits-spec = tie.close (tie.spec (λ c κs. search needs) (λ c κs. search needs) returns returns-2)

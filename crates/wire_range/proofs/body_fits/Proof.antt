@@ -5,64 +5,37 @@ use borrow.Author.Needs.{needs}
 use Rattle.wire_range.proofs.body_fits.Statement.{statement}
 use Rattle.wire_range.proofs.body_fits.Tie as tie
 
-accept-fits-requires : tie.Need-accept-fits-requires
-accept-fits-requires c κs = search needs
-
 returns : tie.Need-returns
 unfolding bodyFits
 returns c = rw (eq-eqb _ _ (c .before .if1 .taken)) (c .accept-fits .ensures)
-
-report-fits-requires : tie.Need-report-fits-requires
-report-fits-requires c κs = search needs
 
 returns-2 : tie.Need-returns-2
 unfolding bodyFits
 returns-2 c = rw (ne-eqb _ _ (c .before .before .if1 .left), eq-eqb _ _ (c .before .if2 .taken)) (c .report-fits .ensures)
 
-exit-fits-requires : tie.Need-exit-fits-requires
-exit-fits-requires c κs = search needs
-
 returns-3 : tie.Need-returns-3
 unfolding bodyFits
 returns-3 c = rw (ne-eqb _ _ (c .before .before .before .if1 .left), ne-eqb _ _ (c .before .before .if2 .left), eq-eqb _ _ (c .before .if3 .taken)) (c .exit-fits .ensures)
-
-restart-fits-requires : tie.Need-restart-fits-requires
-restart-fits-requires c κs = search needs
 
 returns-4 : tie.Need-returns-4
 unfolding bodyFits
 returns-4 c = rw (ne-eqb _ _ (c .before .before .before .before .if1 .left), ne-eqb _ _ (c .before .before .before .if2 .left), ne-eqb _ _ (c .before .before .if3 .left), eq-eqb _ _ (c .before .if4 .taken)) (c .restart-fits .ensures)
 
-report-fits-requires-2 : tie.Need-report-fits-requires-2
-report-fits-requires-2 c κs = search needs
-
 returns-5 : tie.Need-returns-5
 unfolding bodyFits
 returns-5 c = rw (ne-eqb _ _ (c .before .before .before .before .before .if1 .left), ne-eqb _ _ (c .before .before .before .before .if2 .left), ne-eqb _ _ (c .before .before .before .if3 .left), ne-eqb _ _ (c .before .before .if4 .left), eq-eqb _ _ (c .before .if5 .taken)) (c .report-fits2 .ensures)
-
-moment-in-requires : tie.Need-moment-in-requires
-moment-in-requires c κs = search needs
 
 returns-6 : tie.Need-returns-6
 unfolding bodyFits ioFits timed
 returns-6 c = rw (ne-eqb _ _ (c .before .before .before .before .before .before .if1 .left), ne-eqb _ _ (c .before .before .before .before .before .if2 .left), ne-eqb _ _ (c .before .before .before .before .if3 .left), ne-eqb _ _ (c .before .before .before .if4 .left), ne-eqb _ _ (c .before .before .if5 .left), eq-eqb _ _ (c .before .if6 .taken)) (c .moment-in .ensures)
 
-window-fits-requires : tie.Need-window-fits-requires
-window-fits-requires c κs = search needs
-
 returns-7 : tie.Need-returns-7
 unfolding bodyFits
 returns-7 c = rw (ne-eqb _ _ (c .before .before .before .before .before .before .before .if1 .left), ne-eqb _ _ (c .before .before .before .before .before .before .if2 .left), ne-eqb _ _ (c .before .before .before .before .before .if3 .left), ne-eqb _ _ (c .before .before .before .before .if4 .left), ne-eqb _ _ (c .before .before .before .if5 .left), ne-eqb _ _ (c .before .before .if6 .left), eq-eqb _ _ (c .before .if7 .taken)) (c .window-fits .ensures)
 
-suspend-fits-requires : tie.Need-suspend-fits-requires
-suspend-fits-requires c κs = search needs
-
 returns-8 : tie.Need-returns-8
 unfolding bodyFits
 returns-8 c = rw (ne-eqb _ _ (c .before .before .before .before .before .before .before .before .if1 .left), ne-eqb _ _ (c .before .before .before .before .before .before .before .if2 .left), ne-eqb _ _ (c .before .before .before .before .before .before .if3 .left), ne-eqb _ _ (c .before .before .before .before .before .if4 .left), ne-eqb _ _ (c .before .before .before .before .if5 .left), ne-eqb _ _ (c .before .before .before .if6 .left), ne-eqb _ _ (c .before .before .if7 .left), eq-eqb _ _ (c .before .if8 .taken)) (c .suspend-fits .ensures)
-
-entry-fits-requires : tie.Need-entry-fits-requires
-entry-fits-requires c κs = search needs
 
 returns-9 : tie.Need-returns-9
 unfolding bodyFits
@@ -76,22 +49,22 @@ pub body-fits-spec : {M : Type 1} → statement M
 body-fits-spec =
     tie.close
     (tie.spec
-    accept-fits-requires
+    (λ c κs. search needs)
     returns
-    report-fits-requires
+    (λ c κs. search needs)
     returns-2
-    exit-fits-requires
+    (λ c κs. search needs)
     returns-3
-    restart-fits-requires
+    (λ c κs. search needs)
     returns-4
-    report-fits-requires-2
+    (λ c κs. search needs)
     returns-5
-    moment-in-requires
+    (λ c κs. search needs)
     returns-6
-    window-fits-requires
+    (λ c κs. search needs)
     returns-7
-    suspend-fits-requires
+    (λ c κs. search needs)
     returns-8
-    entry-fits-requires
+    (λ c κs. search needs)
     returns-9
     returns-10)

@@ -8,21 +8,6 @@ use borrow.Author.Needs.{needs}
 use Rattle.wire_range.proofs.client_fits.Statement.{statement}
 use Rattle.wire_range.proofs.client_fits.Tie as tie
 
-last-in-requires : tie.Need-last-in-requires
-last-in-requires c κs = search needs
-
-enum-told : tie.Need-enum-told
-enum-told c = search needs
-
-enum-told-2 : tie.Need-enum-told-2
-enum-told-2 c = search needs
-
-enum-known-number : tie.Need-enum-known-number
-enum-known-number c = search needs
-
-kind-of-requires : tie.Need-kind-of-requires
-kind-of-requires c κs = search needs
-
 sub-body-fits : tie.Need-sub-body-fits
 sub-body-fits c = subst (LastLies (c .before .before .before .before .before .before .before .args .s .now)) (sym (c .before .before .before .before .before .last-in .ensures) ∙ c .before .before .before .number .given .1) (last-in-lies (c .before .before .before .before .before .before .before .args .s .now) 1 13) .0
 
@@ -31,9 +16,6 @@ part-body-fits-start c = let h = subst (LastLies (c .before .before .before .bef
 
 part-body-fits-end : tie.Need-part-body-fits-end
 part-body-fits-end c = let h = subst (LastLies (c .before .before .before .before .before .before .before .args .s .now)) (sym (c .before .before .before .before .before .last-in .ensures) ∙ c .before .before .before .number .given .1) (last-in-lies (c .before .before .before .before .before .before .before .args .s .now) 1 13) in omega arith
-
-body-fits-requires : tie.Need-body-fits-requires
-body-fits-requires c κs = search needs
 
 returns : tie.Need-returns
 unfolding clientFits
@@ -55,15 +37,15 @@ pub client-fits-spec : {M : Type 1} → statement M
 client-fits-spec =
     tie.close
     (tie.spec
-    last-in-requires
-    enum-told
-    enum-told-2
-    enum-known-number
-    kind-of-requires
+    (λ c κs. search needs)
+    (λ c. search needs)
+    (λ c. search needs)
+    (λ c. search needs)
+    (λ c κs. search needs)
     sub-body-fits
     part-body-fits-start
     part-body-fits-end
-    body-fits-requires
+    (λ c κs. search needs)
     returns
     returns-2
     returns-3

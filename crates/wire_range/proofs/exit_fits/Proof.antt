@@ -7,15 +7,6 @@ use borrow.Author.Needs.{needs}
 use Rattle.wire_range.proofs.exit_fits.Statement.{statement}
 use Rattle.wire_range.proofs.exit_fits.Tie as tie
 
-moment-in-requires : tie.Need-moment-in-requires
-moment-in-requires c κs = search needs
-
-number-fits-requires : tie.Need-number-fits-requires
-number-fits-requires c κs = search needs
-
-length-in-requires : tie.Need-length-in-requires
-length-in-requires c κs = search needs
-
 returns : tie.Need-returns
 unfolding exitFits exit sized
 returns c = rw (sym (c .before .before .before .before .moment-in .ensures) ∙ c .before .before .before .if1 .taken, sym (c .before .before .number-fits .ensures) ∙ c .before .if2 .taken, ← c .length-in .ensures, leb·zero (c .length-in .result))
@@ -32,9 +23,9 @@ pub exit-fits-spec : {M : Type 1} → statement M
 exit-fits-spec =
     tie.close
     (tie.spec
-    moment-in-requires
-    number-fits-requires
-    length-in-requires
+    (λ c κs. search needs)
+    (λ c κs. search needs)
+    (λ c κs. search needs)
     returns
     returns-2
     returns-3)

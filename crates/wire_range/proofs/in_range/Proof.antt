@@ -4,22 +4,13 @@ use borrow.Author.Needs.{needs}
 use Rattle.wire_range.proofs.in_range.Statement.{statement}
 use Rattle.wire_range.proofs.in_range.Tie as tie
 
-client-fits-requires : tie.Need-client-fits-requires
-client-fits-requires c κs = search needs
-
 returns : tie.Need-returns
 unfolding inRange
 returns c = rw (eq-eqb _ _ (c .before .if1 .taken)) (c .client-fits .ensures)
 
-server-fits-requires : tie.Need-server-fits-requires
-server-fits-requires c κs = search needs
-
 returns-2 : tie.Need-returns-2
 unfolding inRange
 returns-2 c = rw (ne-eqb _ _ (c .before .before .if1 .left), eq-eqb _ _ (c .before .if2 .taken)) (c .server-fits .ensures)
-
-body-fits-requires : tie.Need-body-fits-requires
-body-fits-requires c κs = search needs
 
 returns-3 : tie.Need-returns-3
 unfolding inRange
@@ -29,9 +20,9 @@ pub in-range-spec : {M : Type 1} → statement M
 in-range-spec =
     tie.close
     (tie.spec
-    client-fits-requires
+    (λ c κs. search needs)
     returns
-    server-fits-requires
+    (λ c κs. search needs)
     returns-2
-    body-fits-requires
+    (λ c κs. search needs)
     returns-3)

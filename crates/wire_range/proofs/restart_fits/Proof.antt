@@ -6,12 +6,6 @@ use borrow.Author.Needs.{needs}
 use Rattle.wire_range.proofs.restart_fits.Statement.{statement}
 use Rattle.wire_range.proofs.restart_fits.Tie as tie
 
-length-in-requires : tie.Need-length-in-requires
-length-in-requires c κs = search needs
-
-moment-in-requires : tie.Need-moment-in-requires
-moment-in-requires c κs = search needs
-
 returns : tie.Need-returns
 unfolding restartFits restart sized
 returns c = rw (← c .before .before .before .length-in .ensures, le-leb _ _ (c .before .before .if1 .taken), le-leb _ _ (c .before .if2 .taken)) (c .moment-in .ensures)
@@ -26,4 +20,4 @@ returns-3 c = rw (← c .before .length-in .ensures, lt-leb _ _ (c .if1 .left))
 
 pub restart-fits-spec : {M : Type 1} → statement M
 restart-fits-spec =
-    tie.close (tie.spec length-in-requires moment-in-requires returns returns-2 returns-3)
+    tie.close (tie.spec (λ c κs. search needs) (λ c κs. search needs) returns returns-2 returns-3)

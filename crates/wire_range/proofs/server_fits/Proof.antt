@@ -8,18 +8,6 @@ use borrow.Author.Needs.{needs}
 use Rattle.wire_range.proofs.server_fits.Statement.{statement}
 use Rattle.wire_range.proofs.server_fits.Tie as tie
 
-last-in-requires : tie.Need-last-in-requires
-last-in-requires c κs = search needs
-
-enum-told : tie.Need-enum-told
-enum-told c = search needs
-
-enum-told-2 : tie.Need-enum-told-2
-enum-told-2 c = search needs
-
-enum-known-number : tie.Need-enum-known-number
-enum-known-number c = search needs
-
 sub-time-spec-in : tie.Need-sub-time-spec-in
 sub-time-spec-in c = subst (LastLies (c .before .before .before .before .before .before .args .s .now)) (sym (c .before .before .before .before .last-in .ensures) ∙ c .before .before .number .given .1) (last-in-lies (c .before .before .before .before .before .before .args .s .now) 1 5) .0
 
@@ -28,12 +16,6 @@ part-time-spec-in-start c = let h = subst (LastLies (c .before .before .before .
 
 part-time-spec-in-end : tie.Need-part-time-spec-in-end
 part-time-spec-in-end c = let h = subst (LastLies (c .before .before .before .before .before .before .args .s .now)) (sym (c .before .before .before .before .last-in .ensures) ∙ c .before .before .number .given .1) (last-in-lies (c .before .before .before .before .before .before .args .s .now) 1 5) in omega arith
-
-time-spec-in-requires : tie.Need-time-spec-in-requires
-time-spec-in-requires c κs = search needs
-
-moment-fits-requires : tie.Need-moment-fits-requires
-moment-fits-requires c κs = search needs
 
 returns : tie.Need-returns
 unfolding serverFits
@@ -55,15 +37,15 @@ pub server-fits-spec : {M : Type 1} → statement M
 server-fits-spec =
     tie.close
     (tie.spec
-    last-in-requires
-    enum-told
-    enum-told-2
-    enum-known-number
+    (λ c κs. search needs)
+    (λ c. search needs)
+    (λ c. search needs)
+    (λ c. search needs)
     sub-time-spec-in
     part-time-spec-in-start
     part-time-spec-in-end
-    time-spec-in-requires
-    moment-fits-requires
+    (λ c κs. search needs)
+    (λ c κs. search needs)
     returns
     returns-2
     returns-3

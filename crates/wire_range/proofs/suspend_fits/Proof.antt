@@ -7,12 +7,6 @@ use borrow.Author.Needs.{needs}
 use Rattle.wire_range.proofs.suspend_fits.Statement.{statement}
 use Rattle.wire_range.proofs.suspend_fits.Tie as tie
 
-moment-in-requires : tie.Need-moment-in-requires
-moment-in-requires c κs = search needs
-
-length-in-requires : tie.Need-length-in-requires
-length-in-requires c κs = search needs
-
 returns : tie.Need-returns
 unfolding suspendFits timed sized
 returns c = rw (sym (c .before .before .before .moment-in .ensures) ∙ c .before .before .if1 .taken, ← c .before .length-in .ensures, le-leb _ _ (c .if2 .taken))
@@ -27,4 +21,4 @@ returns-3 c = rw (sym (c .before .moment-in .ensures) ∙ c .if1 .left)
 
 pub suspend-fits-spec : {M : Type 1} → statement M
 suspend-fits-spec =
-    tie.close (tie.spec moment-in-requires length-in-requires returns returns-2 returns-3)
+    tie.close (tie.spec (λ c κs. search needs) (λ c κs. search needs) returns returns-2 returns-3)

@@ -5,15 +5,6 @@ use borrow.Author.Needs.{needs}
 use Rattle.wire_range.proofs.window_fits.Statement.{statement}
 use Rattle.wire_range.proofs.window_fits.Tie as tie
 
-moment-in-requires : tie.Need-moment-in-requires
-moment-in-requires c κs = search needs
-
-number-fits-requires : tie.Need-number-fits-requires
-number-fits-requires c κs = search needs
-
-number-fits-requires-2 : tie.Need-number-fits-requires-2
-number-fits-requires-2 c κs = search needs
-
 returns : tie.Need-returns
 unfolding windowFits windowSize
 returns c = rw (sym (c .before .before .before .before .moment-in .ensures) ∙ c .before .before .before .if1 .taken, sym (c .before .before .number-fits .ensures) ∙ c .before .if2 .taken) (c .number-fits2 .ensures)
@@ -30,9 +21,9 @@ pub window-fits-spec : {M : Type 1} → statement M
 window-fits-spec =
     tie.close
     (tie.spec
-    moment-in-requires
-    number-fits-requires
-    number-fits-requires-2
+    (λ c κs. search needs)
+    (λ c κs. search needs)
+    (λ c κs. search needs)
     returns
     returns-2
     returns-3)

@@ -13,12 +13,6 @@ returns c =
     let a = c .before .args in
     simp (lt-leb (a .width) (length (a .s .now) - a .from) (omega arith))
 
-sub-if2 : tie.Need-sub-if2
-sub-if2 c = search needs
-
-add-t9 : tie.Need-add-t9
-add-t9 c = search needs
-
 returns-2 : tie.Need-returns-2
 unfolding fixedAt
 returns-2 c = simp (le-leb _ _ (c .if2 .taken))
@@ -28,4 +22,4 @@ unfolding fixedAt
 returns-3 c = simp (lt-leb _ _ (c .if2 .left))
 
 pub fixed-at-spec : {M : Type 1} → statement M
-fixed-at-spec = tie.close (tie.spec returns sub-if2 add-t9 returns-2 returns-3)
+fixed-at-spec = tie.close (tie.spec returns (λ c. search needs) (λ c. search needs) returns-2 returns-3)

@@ -4,18 +4,6 @@ use borrow.Author.Needs.{needs}
 use Rattle.wire_value.proofs.number_at.Statement.{statement}
 use Rattle.wire_value.proofs.number_at.Tie as tie
 
-varint-at-requires : tie.Need-varint-at-requires
-varint-at-requires c κs = search needs
-
-enum-known-value : tie.Need-enum-known-value
-enum-known-value c = search needs
-
-enum-told : tie.Need-enum-told
-enum-told c = search needs
-
-enum-told-2 : tie.Need-enum-told-2
-enum-told-2 c = search needs
-
 returns : tie.Need-returns
 unfolding numberOf
 returns c = rw (sym (c .before .before .before .varint-at .ensures) ∙ c .before .value .given .1)
@@ -32,10 +20,10 @@ pub number-at-spec : {M : Type 1} → statement M
 number-at-spec =
     tie.close
     (tie.spec
-    varint-at-requires
-    enum-known-value
-    enum-told
-    enum-told-2
+    (λ c κs. search needs)
+    (λ c. search needs)
+    (λ c. search needs)
+    (λ c. search needs)
     returns
     returns-2
     returns-3)

@@ -6,12 +6,6 @@ use borrow.Author.Needs.{needs}
 use Rattle.wire_value.proofs.part_slow.Statement.{statement}
 use Rattle.wire_value.proofs.part_slow.Tie as tie
 
-varint-at-requires : tie.Need-varint-at-requires
-varint-at-requires c κs = search needs
-
-enum-known-value : tie.Need-enum-known-value
-enum-known-value c = search needs
-
 sub-left : tie.Need-sub-left
 sub-left c = let v = c .before in
     let k = v .before .before .before in
@@ -19,15 +13,6 @@ sub-left c = let v = c .before in
     let h = subst (Within (a .s .now) (a .at) 9) (sym (v .before .before .varint-at .ensures) ∙ v .value .given .1)
     (within (a .s .now) (λ i. k .shared-slice-known .given i .fits) 9 (a .at)) in
     h .1
-
-add-t13 : tie.Need-add-t13
-add-t13 c = search needs
-
-enum-told : tie.Need-enum-told
-enum-told c = search needs
-
-enum-told-2 : tie.Need-enum-told-2
-enum-told-2 c = search needs
 
 returns : tie.Need-returns
 unfolding partOf
@@ -51,12 +36,12 @@ pub part-slow-spec : {M : Type 1} → statement M
 part-slow-spec =
     tie.close
     (tie.spec
-    varint-at-requires
-    enum-known-value
+    (λ c κs. search needs)
+    (λ c. search needs)
     sub-left
-    add-t13
-    enum-told
-    enum-told-2
+    (λ c. search needs)
+    (λ c. search needs)
+    (λ c. search needs)
     returns
     returns-2
     returns-3

@@ -15,27 +15,15 @@ either : (t : Bool) (p : Payload) → p ≡ pick t p p
 either true p = refl
 either false p = refl
 
-fixed-at-requires : tie.Need-fixed-at-requires
-fixed-at-requires c κs = search needs
-
 returns : tie.Need-returns
 unfolding payloadAt
 returns c = let w = c .before .if1 .taken in
     c .fixed-at .ensures ∙ rw w
 
-fixed-at-requires-2 : tie.Need-fixed-at-requires-2
-fixed-at-requires-2 c κs = search needs
-
 returns-2 : tie.Need-returns-2
 unfolding payloadAt
 returns-2 c = let w = c .before .if2 .taken in
     c .fixed-at2 .ensures ∙ rw w
-
-varint-at-requires : tie.Need-varint-at-requires
-varint-at-requires c κs = search needs
-
-enum-known-value : tie.Need-enum-known-value
-enum-known-value c = search needs
 
 returns-3 : tie.Need-returns-3
 unfolding payloadAt numberOf
@@ -49,15 +37,6 @@ sub-left c = let v = c .before .before in
     let h = subst (Within (a .s .now) (a .from) 9) (sym (k .varint-at .ensures) ∙ v .value .given .1)
     (within (a .s .now) (λ i. k .before .before .before .shared-slice-known .given i .fits) 9 (a .from)) in
     h .1
-
-add-t16 : tie.Need-add-t16
-add-t16 c = search needs
-
-enum-told : tie.Need-enum-told
-enum-told c = search needs
-
-enum-told-2 : tie.Need-enum-told-2
-enum-told-2 c = search needs
 
 returns-4 : tie.Need-returns-4
 unfolding payloadAt partOf
@@ -91,17 +70,17 @@ pub payload-at-spec : {M : Type 1} → statement M
 payload-at-spec =
     tie.close
     (tie.spec
-    fixed-at-requires
+    (λ c κs. search needs)
     returns
-    fixed-at-requires-2
+    (λ c κs. search needs)
     returns-2
-    varint-at-requires
-    enum-known-value
+    (λ c κs. search needs)
+    (λ c. search needs)
     returns-3
     sub-left
-    add-t16
-    enum-told
-    enum-told-2
+    (λ c. search needs)
+    (λ c. search needs)
+    (λ c. search needs)
     returns-4
     returns-5
     returns-6

@@ -20,12 +20,6 @@ loop-holds : tie.Need-loop-holds Inv-loop μ-loop
 unfolding lim
 loop-holds c = (omega arith, refl, under-start _)
 
-shared-slice-read-wide : tie.Need-shared-slice-read-wide Inv-loop μ-loop
-shared-slice-read-wide c = search needs
-
-wide-requires : tie.Need-wide-requires Inv-loop μ-loop
-wide-requires c κs = search needs
-
 mul-t13 : tie.Need-mul-t13 Inv-loop μ-loop
 mul-t13 c =
     let w = c .before .before in
@@ -147,8 +141,8 @@ varint-at-spec =
     Inv-loop
     μ-loop
     loop-holds
-    shared-slice-read-wide
-    wide-requires
+    (λ c. search needs)
+    (λ c κs. search needs)
     mul-t13
     add-t14
     add-t15

@@ -26,31 +26,10 @@ abbrev μ-loop : tie.MeasureT-loop
 loop-holds : tie.Need-loop-holds Inv-loop μ-loop
 loop-holds c = start _
 
-tag-at-requires : tie.Need-tag-at-requires Inv-loop μ-loop
-tag-at-requires c κs = search needs
-
-enum-known-refusal : tie.Need-enum-known-refusal Inv-loop μ-loop
-enum-known-refusal c = search needs
-
 returns : tie.Need-returns Inv-loop μ-loop
 returns c = let v = c .before in
     let a = v .before .before in
     stop (a .before .before .loop .inv) (a .before .loop-test .taken) _ _ (bad-tag 0 _ _ _ (omega arith) (sym (a .tag-at .ensures) ∙ v .refusal .given .1))
-
-enum-known-number : tie.Need-enum-known-number Inv-loop μ-loop
-enum-known-number c = search needs
-
-kind-of-requires : tie.Need-kind-of-requires Inv-loop μ-loop
-kind-of-requires c κs = search needs
-
-takes-requires : tie.Need-takes-requires Inv-loop μ-loop
-takes-requires c κs = search needs
-
-payload-at-requires : tie.Need-payload-at-requires Inv-loop μ-loop
-payload-at-requires c κs = search needs
-
-enum-known-start : tie.Need-enum-known-start Inv-loop μ-loop
-enum-known-start c = search needs
 
 sub-io-buffer : tie.Need-sub-io-buffer Inv-loop μ-loop
 sub-io-buffer c = let q = c in
@@ -99,12 +78,6 @@ part-io-buffer-end c = let q = c in
     let io : kindOf 0 (u .0) ≡ 22 = sym (o .kind-of .ensures) ∙ q .if2 .taken in
     let h = sym (w .payload-at .ensures) ∙ q .before .before .start .given .1 in
     let z = lies 0 _ _ _ _ _ i (inside g i _ _ _ tagged fits _ _ h (omega (arith, io))) in omega arith
-
-io-buffer-requires : tie.Need-io-buffer-requires Inv-loop μ-loop
-io-buffer-requires c κs = search needs
-
-enum-known-seconds : tie.Need-enum-known-seconds Inv-loop μ-loop
-enum-known-seconds c = search needs
 
 add-t34 : tie.Need-add-t34 Inv-loop μ-loop
 add-t34 c = let q = c .before .before .before .before .before in
@@ -185,9 +158,6 @@ loop-again c = let q = c .before .before .before .before .before in
     let h = sym (w .payload-at .ensures) ∙ q .before .before .start .given .1 in
     let y = c .before .before .before in
     io-in g i _ _ _ tagged fits _ _ h io _ _ _ _ (sym (y .io-buffer .ensures) ∙ c .before .seconds .given .1) .1
-
-enum-known-refusal-2 : tie.Need-enum-known-refusal-2 Inv-loop μ-loop
-enum-known-refusal-2 c = search needs
 
 add-t36 : tie.Need-add-t36 Inv-loop μ-loop
 add-t36 c = let q = c .before .before .before .before .before in
@@ -277,12 +247,6 @@ part-check-end c = let q = c in
     let h = sym (w .payload-at .ensures) ∙ q .before .before .before .start .given .1 in
     let z = lies 0 _ _ _ _ _ i (inside g i _ _ _ tagged fits _ _ h big) in omega arith
 
-check-requires : tie.Need-check-requires Inv-loop μ-loop
-check-requires c κs = search needs
-
-enum-told : tie.Need-enum-told Inv-loop μ-loop
-enum-told c = search needs
-
 loop-less-2 : tie.Need-loop-less-2 Inv-loop μ-loop
 loop-less-2 c = let q = c .before .before .before .before in
     let w = q .before .before .before .before .before in
@@ -316,9 +280,6 @@ loop-again-2 c = let q = c .before .before .before .before in
     let h = sym (w .payload-at .ensures) ∙ q .before .before .before .start .given .1 in
     let y = c .before .before in
     other-in g i _ _ _ tagged fits _ _ h big (λ e. q .before .if2 .left (o .kind-of .ensures ∙ e)) (rw (← o .kind-of .ensures) (sym (y .check .ensures) ∙ c .enum-told .given .1)) .1
-
-enum-known-refusal-3 : tie.Need-enum-known-refusal-3 Inv-loop μ-loop
-enum-known-refusal-3 c = search needs
 
 add-t44 : tie.Need-add-t44 Inv-loop μ-loop
 add-t44 c = let q = c .before .before .before .before .before in
@@ -392,9 +353,6 @@ loop-again-3 c = let q = c in
     let h = sym (w .payload-at .ensures) ∙ q .before .before .before .start .given .1 in
     part-passes g i _ _ _ tagged fits _ _ h small .1
 
-enum-known-after : tie.Need-enum-known-after Inv-loop μ-loop
-enum-known-after c = search needs
-
 loop-less-4 : tie.Need-loop-less-4 Inv-loop μ-loop
 loop-less-4 c = let w = c .before .before .before in
     let k = w .before .before in
@@ -421,9 +379,6 @@ loop-again-4 c = let w = c .before .before .before in
     let fits : takes (kindOf 0 (u .0)) (u .1 .0) ≡ true = rw (← o .kind-of .ensures) (sym (k .takes .ensures) ∙ w .before .if1 .taken) in
     number-passes g i _ _ _ tagged fits _ _ (sym (w .payload-at .ensures) ∙ c .before .after .given .1) .1
 
-enum-known-after-2 : tie.Need-enum-known-after-2 Inv-loop μ-loop
-enum-known-after-2 c = search needs
-
 loop-less-5 : tie.Need-loop-less-5 Inv-loop μ-loop
 loop-less-5 c = let w = c .before .before .before in
     let k = w .before .before in
@@ -449,9 +404,6 @@ loop-again-5 c = let w = c .before .before .before in
     let tagged = sym (a .tag-at .ensures) ∙ n .number .given .1 in
     let fits : takes (kindOf 0 (u .0)) (u .1 .0) ≡ true = rw (← o .kind-of .ensures) (sym (k .takes .ensures) ∙ w .before .if1 .taken) in
     fixed-passes g i _ _ _ tagged fits _ (sym (w .payload-at .ensures) ∙ c .before .after2 .given .1) .1
-
-enum-known-refusal-4 : tie.Need-enum-known-refusal-4 Inv-loop μ-loop
-enum-known-refusal-4 c = search needs
 
 returns-4 : tie.Need-returns-4 Inv-loop μ-loop
 returns-4 c = let w = c .before .before .before in
@@ -487,45 +439,45 @@ client-walk-spec =
     Inv-loop
     μ-loop
     loop-holds
-    tag-at-requires
-    enum-known-refusal
+    (λ c κs. search needs)
+    (λ c. search needs)
     returns
-    enum-known-number
-    kind-of-requires
-    takes-requires
-    payload-at-requires
-    enum-known-start
+    (λ c. search needs)
+    (λ c κs. search needs)
+    (λ c κs. search needs)
+    (λ c κs. search needs)
+    (λ c. search needs)
     sub-io-buffer
     part-io-buffer-start
     part-io-buffer-end
-    io-buffer-requires
-    enum-known-seconds
+    (λ c κs. search needs)
+    (λ c. search needs)
     add-t34
     add-t35
     loop-less
     loop-again
-    enum-known-refusal-2
+    (λ c. search needs)
     add-t36
     returns-2
     sub-check
     part-check-start
     part-check-end
-    check-requires
-    enum-told
+    (λ c κs. search needs)
+    (λ c. search needs)
     loop-less-2
     loop-again-2
-    enum-known-refusal-3
+    (λ c. search needs)
     add-t44
     returns-3
     loop-less-3
     loop-again-3
-    enum-known-after
+    (λ c. search needs)
     loop-less-4
     loop-again-4
-    enum-known-after-2
+    (λ c. search needs)
     loop-less-5
     loop-again-5
-    enum-known-refusal-4
+    (λ c. search needs)
     returns-4
     returns-5
     returns-6)

@@ -8,12 +8,9 @@ returns : tie.Need-returns
 unfolding reportMember
 returns c = rw (eq-eqb _ _ (c .if1 .taken))
 
-member-in-requires : tie.Need-member-in-requires
-member-in-requires c κs = search needs
-
 returns-2 : tie.Need-returns-2
 unfolding reportMember
 returns-2 c = rw (ne-eqb _ _ (c .before .if1 .left)) (c .member-in .ensures)
 
 pub report-member-spec : {M : Type 1} → statement M
-report-member-spec = tie.close (tie.spec returns member-in-requires returns-2)
+report-member-spec = tie.close (tie.spec returns (λ c κs. search needs) returns-2)

@@ -8,29 +8,8 @@ use borrow.Author.Needs.{needs}
 use Rattle.write_client.proofs.write_client_hello.Statement.{statement}
 use Rattle.write_client.proofs.write_client_hello.Tie as tie
 
-member-in-requires : tie.Need-member-in-requires
-member-in-requires c κs = search needs
-
-listed-requires : tie.Need-listed-requires
-listed-requires c κs = search needs
-
-slice-aggregate-write-plain : tie.Need-slice-aggregate-write-plain
-slice-aggregate-write-plain c = search needs
-
-slice-aggregate-write-plain-2 : tie.Need-slice-aggregate-write-plain-2
-slice-aggregate-write-plain-2 c = search needs
-
-slice-aggregate-write-plain-3 : tie.Need-slice-aggregate-write-plain-3
-slice-aggregate-write-plain-3 c = search needs
-
-slice-aggregate-write-plain-4 : tie.Need-slice-aggregate-write-plain-4
-slice-aggregate-write-plain-4 c = search needs
-
 write-plain-requires : tie.Need-write-plain-requires
 write-plain-requires c κs = λ h. member-small 13 13 _ (omega arith) (c .before .before .before .before .before .before .member-in .ensures) h
-
-same-length : tie.Need-same-length
-same-length c = search needs
 
 returns : tie.Need-returns
 unfolding encode around cover
@@ -40,12 +19,12 @@ pub write-client-hello-spec : {M : Type 1} → statement M
 write-client-hello-spec =
     tie.close
     (tie.spec
-    member-in-requires
-    listed-requires
-    slice-aggregate-write-plain
-    slice-aggregate-write-plain-2
-    slice-aggregate-write-plain-3
-    slice-aggregate-write-plain-4
+    (λ c κs. search needs)
+    (λ c κs. search needs)
+    (λ c. search needs)
+    (λ c. search needs)
+    (λ c. search needs)
+    (λ c. search needs)
     write-plain-requires
-    same-length
+    (λ c. search needs)
     returns)

@@ -8,35 +8,8 @@ use borrow.Author.Needs.{needs}
 use Rattle.write_client.proofs.write_report.Statement.{statement}
 use Rattle.write_client.proofs.write_report.Tie as tie
 
-run-refusal-requires : tie.Need-run-refusal-requires
-run-refusal-requires c κs = search needs
-
-report-member-requires : tie.Need-report-member-requires
-report-member-requires c κs = search needs
-
-date-fits-requires : tie.Need-date-fits-requires
-date-fits-requires c κs = search needs
-
-both-requires : tie.Need-both-requires
-both-requires c κs = search needs
-
-timed-requires : tie.Need-timed-requires
-timed-requires c κs = search needs
-
-slice-aggregate-write-plain : tie.Need-slice-aggregate-write-plain
-slice-aggregate-write-plain c = search needs
-
-slice-aggregate-write-plain-2 : tie.Need-slice-aggregate-write-plain-2
-slice-aggregate-write-plain-2 c = search needs
-
-slice-aggregate-write-plain-3 : tie.Need-slice-aggregate-write-plain-3
-slice-aggregate-write-plain-3 c = search needs
-
 write-plain-requires : tie.Need-write-plain-requires
 write-plain-requires c κs = λ h. report-small _ (c .before .before .before .before .before .before .before .report-member .ensures) (both-true _ (c .before .before .before .before .before .before .date-fits .result) (sym (c .before .before .before .before .before .both .ensures) ∙ h) .0)
-
-same-length : tie.Need-same-length
-same-length c = search needs
 
 returns : tie.Need-returns
 unfolding encode around cover
@@ -46,14 +19,14 @@ pub write-report-spec : {M : Type 1} → statement M
 write-report-spec =
     tie.close
     (tie.spec
-    run-refusal-requires
-    report-member-requires
-    date-fits-requires
-    both-requires
-    timed-requires
-    slice-aggregate-write-plain
-    slice-aggregate-write-plain-2
-    slice-aggregate-write-plain-3
+    (λ c κs. search needs)
+    (λ c κs. search needs)
+    (λ c κs. search needs)
+    (λ c κs. search needs)
+    (λ c κs. search needs)
+    (λ c. search needs)
+    (λ c. search needs)
+    (λ c. search needs)
     write-plain-requires
-    same-length
+    (λ c. search needs)
     returns)

@@ -6,14 +6,8 @@ use borrow.Author.Needs.{needs}
 use Rattle.write_entry.proofs.entry_fits.Statement.{statement}
 use Rattle.write_entry.proofs.entry_fits.Tie as tie
 
-member-in-requires : tie.Need-member-in-requires
-member-in-requires c κs = search needs
-
-both-requires : tie.Need-both-requires
-both-requires c κs = search needs
-
 returns : tie.Need-returns
 returns c = both-same {b = leb 1 (length (c .before .before .before .args .key .now))} (c .both .ensures) (c .before .member-in .ensures) refl
 
 pub entry-fits-spec : {M : Type 1} → statement M
-entry-fits-spec = tie.close (tie.spec member-in-requires both-requires returns)
+entry-fits-spec = tie.close (tie.spec (λ c κs. search needs) (λ c κs. search needs) returns)

@@ -8,29 +8,8 @@ use borrow.Author.Needs.{needs}
 use Rattle.write_entry.proofs.write_entry_number.Statement.{statement}
 use Rattle.write_entry.proofs.write_entry_number.Tie as tie
 
-entry-fits-requires : tie.Need-entry-fits-requires
-entry-fits-requires c κs = search needs
-
-numbered-requires : tie.Need-numbered-requires
-numbered-requires c κs = search needs
-
-slice-aggregate-write-plain : tie.Need-slice-aggregate-write-plain
-slice-aggregate-write-plain c = search needs
-
-slice-aggregate-write-plain-2 : tie.Need-slice-aggregate-write-plain-2
-slice-aggregate-write-plain-2 c = search needs
-
-slice-aggregate-write-plain-3 : tie.Need-slice-aggregate-write-plain-3
-slice-aggregate-write-plain-3 c = search needs
-
-slice-aggregate-write-plain-4 : tie.Need-slice-aggregate-write-plain-4
-slice-aggregate-write-plain-4 c = search needs
-
 write-plain-requires : tie.Need-write-plain-requires
 write-plain-requires c κs = λ h. entry-small _ (c .before .before .before .before .before .before .before .before .before .args .key .now) (c .before .before .before .before .before .before .entry-fits .ensures) h
-
-same-length : tie.Need-same-length
-same-length c = search needs
 
 returns : tie.Need-returns
 unfolding encode around cover valuePiece
@@ -40,12 +19,12 @@ pub write-entry-number-spec : {M : Type 1} → statement M
 write-entry-number-spec =
     tie.close
     (tie.spec
-    entry-fits-requires
-    numbered-requires
-    slice-aggregate-write-plain
-    slice-aggregate-write-plain-2
-    slice-aggregate-write-plain-3
-    slice-aggregate-write-plain-4
+    (λ c κs. search needs)
+    (λ c κs. search needs)
+    (λ c. search needs)
+    (λ c. search needs)
+    (λ c. search needs)
+    (λ c. search needs)
     write-plain-requires
-    same-length
+    (λ c. search needs)
     returns)

@@ -8,26 +8,8 @@ use borrow.Author.Needs.{needs}
 use Rattle.write_entry.proofs.write_entry_string.Statement.{statement}
 use Rattle.write_entry.proofs.write_entry_string.Tie as tie
 
-entry-fits-requires : tie.Need-entry-fits-requires
-entry-fits-requires c κs = search needs
-
-listed-requires : tie.Need-listed-requires
-listed-requires c κs = search needs
-
-slice-aggregate-write-plain : tie.Need-slice-aggregate-write-plain
-slice-aggregate-write-plain c = search needs
-
-slice-aggregate-write-plain-2 : tie.Need-slice-aggregate-write-plain-2
-slice-aggregate-write-plain-2 c = search needs
-
-slice-aggregate-write-plain-3 : tie.Need-slice-aggregate-write-plain-3
-slice-aggregate-write-plain-3 c = search needs
-
 write-plain-requires : tie.Need-write-plain-requires
 write-plain-requires c κs = λ h. entry-small _ (c .before .before .before .before .before .before .before .before .before .args .key .now) (c .before .before .before .before .before .entry-fits .ensures) h
-
-same-length : tie.Need-same-length
-same-length c = search needs
 
 returns : tie.Need-returns
 unfolding encode around cover valuePiece
@@ -37,11 +19,11 @@ pub write-entry-string-spec : {M : Type 1} → statement M
 write-entry-string-spec =
     tie.close
     (tie.spec
-    entry-fits-requires
-    listed-requires
-    slice-aggregate-write-plain
-    slice-aggregate-write-plain-2
-    slice-aggregate-write-plain-3
+    (λ c κs. search needs)
+    (λ c κs. search needs)
+    (λ c. search needs)
+    (λ c. search needs)
+    (λ c. search needs)
     write-plain-requires
-    same-length
+    (λ c. search needs)
     returns)

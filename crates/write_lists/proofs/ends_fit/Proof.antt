@@ -19,20 +19,8 @@ abbrev μ-loop : tie.MeasureT-loop
 loop-holds : tie.Need-loop-holds Inv-loop μ-loop
 loop-holds c = (search needs, refl)
 
-mul-e : tie.Need-mul-e Inv-loop μ-loop
-mul-e c = search needs
-
-shared-slice-read-e : tie.Need-shared-slice-read-e Inv-loop μ-loop
-shared-slice-read-e c = search needs
-
 returns : tie.Need-returns Inv-loop μ-loop
 returns c = let a = c .before .before .before .before .args in let l = c .before .before .before .loop in let e : badEnds (a .size) (l .a) (drop (l .i) (a .ends .now)) ≡ true = ends-step (a .size) (l .a) (a .ends .now) (l .i) (c .before .before .loop-test .taken) ∙ rw (lt-ltb _ _ (c .if1 .taken)) in sym (ap not (sym (l .inv .1) ∙ e))
-
-add-i : tie.Need-add-i Inv-loop μ-loop
-add-i c = search needs
-
-loop-less : tie.Need-loop-less Inv-loop μ-loop
-loop-less c = search needs
 
 loop-again : tie.Need-loop-again Inv-loop μ-loop
 loop-again c = let a = c .before .before .before .before .args in let l = c .before .before .before .loop in (omega arith, sym (rw (le-ltb _ _ (c .if1 .left)) at (ends-step (a .size) (l .a) (a .ends .now) (l .i) (c .before .before .loop-test .taken))) ∙ l .inv .1)
@@ -47,10 +35,10 @@ ends-fit-spec =
     Inv-loop
     μ-loop
     loop-holds
-    mul-e
-    shared-slice-read-e
+    (λ c. search needs)
+    (λ c. search needs)
     returns
-    add-i
-    loop-less
+    (λ c. search needs)
+    (λ c. search needs)
     loop-again
     returns-2)

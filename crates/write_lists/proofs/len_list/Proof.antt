@@ -15,12 +15,6 @@ abbrev μ-loop : tie.MeasureT-loop
 loop-holds : tie.Need-loop-holds Inv-loop μ-loop
 loop-holds c = (search needs, record { good = c .before .before .pre; small = omega arith; all = omega arith })
 
-mul-e : tie.Need-mul-e Inv-loop μ-loop
-mul-e c = search needs
-
-shared-slice-read-e : tie.Need-shared-slice-read-e Inv-loop μ-loop
-shared-slice-read-e c = search needs
-
 sub-if1 : tie.Need-sub-if1 Inv-loop μ-loop
 sub-if1 c = omega (arith, next-end (c .before .before .loop .inv .1 .good) (c .before .loop-test .taken) .up)
 
@@ -30,26 +24,14 @@ returns c = (counted-long (c .before .before .before .loop .inv .1) (c .before .
 sub-len-head : tie.Need-sub-len-head Inv-loop μ-loop
 sub-len-head c = omega (arith, next-end (c .before .before .before .loop .inv .1 .good) (c .before .before .loop-test .taken) .up)
 
-len-head-requires : tie.Need-len-head-requires Inv-loop μ-loop
-len-head-requires c κs = search needs
-
 sub-n : tie.Need-sub-n Inv-loop μ-loop
 sub-n c = omega (arith, next-end (c .before .before .before .before .loop .inv .1 .good) (c .before .before .before .loop-test .taken) .up)
-
-add-n : tie.Need-add-n Inv-loop μ-loop
-add-n c = search needs
 
 add-n-2 : tie.Need-add-n-2 Inv-loop μ-loop
 add-n-2 c = omega (arith, c .before .before .before .before .loop .inv .1 .small)
 
 returns-2 : tie.Need-returns-2 Inv-loop μ-loop
 returns-2 c = (counted-long (c .before .before .before .before .before .loop .inv .1) (c .before .before .before .before .loop-test .taken) (omega arith), omega arith)
-
-add-i : tie.Need-add-i Inv-loop μ-loop
-add-i c = search needs
-
-loop-less : tie.Need-loop-less Inv-loop μ-loop
-loop-less c = search needs
 
 loop-again : tie.Need-loop-again Inv-loop μ-loop
 loop-again c = (omega arith, counted-more (c .before .before .before .before .before .loop .inv .1) (c .before .before .before .before .loop-test .taken) (c .before .len-head .ensures .0) (c .if2 .left))
@@ -64,17 +46,17 @@ len-list-spec =
     Inv-loop
     μ-loop
     loop-holds
-    mul-e
-    shared-slice-read-e
+    (λ c. search needs)
+    (λ c. search needs)
     sub-if1
     returns
     sub-len-head
-    len-head-requires
+    (λ c κs. search needs)
     sub-n
-    add-n
+    (λ c. search needs)
     add-n-2
     returns-2
-    add-i
-    loop-less
+    (λ c. search needs)
+    (λ c. search needs)
     loop-again
     returns-3)

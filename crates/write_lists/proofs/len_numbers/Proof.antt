@@ -4,21 +4,12 @@ use borrow.Author.Needs.{needs}
 use Rattle.write_lists.proofs.len_numbers.Statement.{statement}
 use Rattle.write_lists.proofs.len_numbers.Tie as tie
 
-len-packed-requires : tie.Need-len-packed-requires
-len-packed-requires c κs = search needs
-
 returns : tie.Need-returns
 returns c = (like-none 1 (c .before .len-packed .ensures .0) (c .if1 .taken), omega arith)
-
-len-head-requires : tie.Need-len-head-requires
-len-head-requires c κs = search needs
-
-add-result : tie.Need-add-result
-add-result c = search needs
 
 returns-2 : tie.Need-returns-2
 returns-2 c = (like-text 1 (c .before .before .len-packed .ensures .0) (c .before .if1 .left) (c .len-head .ensures .0), omega arith)
 
 pub len-numbers-spec : {M : Type 1} → statement M
 len-numbers-spec =
-    tie.close (tie.spec len-packed-requires returns len-head-requires add-result returns-2)
+    tie.close (tie.spec (λ c κs. search needs) returns (λ c κs. search needs) (λ c. search needs) returns-2)

@@ -15,26 +15,11 @@ abbrev μ-loop : tie.MeasureT-loop
 loop-holds : tie.Need-loop-holds Inv-loop μ-loop
 loop-holds c = (search needs, record { small = omega arith; all = omega arith })
 
-mul-len-varint : tie.Need-mul-len-varint Inv-loop μ-loop
-mul-len-varint c = search needs
-
-shared-slice-read-len-varint : tie.Need-shared-slice-read-len-varint Inv-loop μ-loop
-shared-slice-read-len-varint c = search needs
-
-len-varint-requires : tie.Need-len-varint-requires Inv-loop μ-loop
-len-varint-requires c κs = search needs
-
 add-n : tie.Need-add-n Inv-loop μ-loop
 add-n c = omega (arith, c .before .before .before .loop .inv .1 .small)
 
 returns : tie.Need-returns Inv-loop μ-loop
 returns c = (counted-long (c .before .before .before .before .loop .inv .1) (c .before .before .before .loop-test .taken) (c .before .len-varint .ensures .0) (c .if1 .taken), omega arith)
-
-add-i : tie.Need-add-i Inv-loop μ-loop
-add-i c = search needs
-
-loop-less : tie.Need-loop-less Inv-loop μ-loop
-loop-less c = search needs
 
 loop-again : tie.Need-loop-again Inv-loop μ-loop
 loop-again c = (omega arith, counted-more (c .before .before .before .before .loop .inv .1) (c .before .before .before .loop-test .taken) (c .before .len-varint .ensures .0) (c .if1 .left))
@@ -49,12 +34,12 @@ len-packed-spec =
     Inv-loop
     μ-loop
     loop-holds
-    mul-len-varint
-    shared-slice-read-len-varint
-    len-varint-requires
+    (λ c. search needs)
+    (λ c. search needs)
+    (λ c κs. search needs)
     add-n
     returns
-    add-i
-    loop-less
+    (λ c. search needs)
+    (λ c. search needs)
     loop-again
     returns-2)

@@ -17,12 +17,6 @@ abbrev μ-loop : tie.MeasureT-loop
 loop-holds : tie.Need-loop-holds Inv-loop μ-loop
 loop-holds c = let a = c .before .before .before .args in (search needs, record { good = c .before .before .before .pre .0; filling = fill-start (a .out .now) (a .at) (elementsFrom (a .f) (a .joined .now) (a .ends .now) 0 0) })
 
-mul-e : tie.Need-mul-e Inv-loop μ-loop
-mul-e c = search needs
-
-shared-slice-read-e : tie.Need-shared-slice-read-e Inv-loop μ-loop
-shared-slice-read-e c = search needs
-
 sub-put-head : tie.Need-sub-put-head Inv-loop μ-loop
 sub-put-head c = omega (arith, next-end (c .before .before .before .loop .inv .1 .good) (c .before .before .loop-test .taken) .up)
 
@@ -41,12 +35,6 @@ part-put-raw-end c = let n = next-end (c .before .before .before .before .before
 put-raw-requires : tie.Need-put-raw-requires Inv-loop μ-loop
 put-raw-requires c κs = let l = c .before .before .before .before .before .before .before .before .loop in let n = next-end (l .inv .1 .good) (c .before .before .before .before .before .before .before .loop-test .taken) in omega (arith, listed-room (l .inv .1) (c .before .before .before .before .before .before .before .loop-test .taken) (c .before .before .before .before .before .before .before .before .before .before .before .before .pre .1), length-part (c .before .before .before .before .before .before .before .before .before .before .before .before .args .joined .now) (l .a) (getD (c .before .before .before .before .before .before .before .before .before .before .before .before .args .ends .now) (l .i) 0) (n .up) (n .within))
 
-add-i : tie.Need-add-i Inv-loop μ-loop
-add-i c = search needs
-
-loop-less : tie.Need-loop-less Inv-loop μ-loop
-loop-less c = search needs
-
 loop-again : tie.Need-loop-again Inv-loop μ-loop
 loop-again c = (omega arith, listed-more (c .before .before .before .before .before .before .before .before .before .before .before .loop .inv .1) (c .before .before .before .before .before .before .before .before .before .before .loop-test .taken) (c .before .before .before .before .before .before .before .put-head .ensures) (c .before .before .put-raw .ensures))
 
@@ -63,16 +51,16 @@ put-list-spec =
     Inv-loop
     μ-loop
     loop-holds
-    mul-e
-    shared-slice-read-e
+    (λ c. search needs)
+    (λ c. search needs)
     sub-put-head
     put-head-requires
     sub-put-raw
     part-put-raw-start
     part-put-raw-end
     put-raw-requires
-    add-i
-    loop-less
+    (λ c. search needs)
+    (λ c. search needs)
     loop-again
     same-length
     returns)

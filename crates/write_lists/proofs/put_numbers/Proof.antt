@@ -10,9 +10,6 @@ use borrow.Author.Needs.{needs}
 use Rattle.write_lists.proofs.put_numbers.Statement.{statement}
 use Rattle.write_lists.proofs.put_numbers.Tie as tie
 
-len-packed-requires : tie.Need-len-packed-requires
-len-packed-requires c κs = search needs
-
 returns : tie.Need-returns
 returns c = let a = c .before .before .before .before .args in let e = like-within (c .before .len-packed .ensures .0) (c .before .before .before .before .pre .0) in rw (text-none 1 (packed (a .numbers .now)) (sym e ∙ c .if1 .taken)) (nothing (a .out .now) (a .at) (omega arith))
 
@@ -22,9 +19,6 @@ put-head-requires c κs = let d = packed (c .before .before .before .before .bef
 put-packed-requires : tie.Need-put-packed-requires
 put-packed-requires c κs = let d = packed (c .before .before .before .before .before .before .before .before .before .args .numbers .now) in let e = like-within (c .before .before .before .before .before .before .len-packed .ensures .0) (c .before .before .before .before .before .before .before .before .before .pre .0) in omega (arith, length-text 1 d (λ (z : length d ≡ 0). c .before .before .before .before .before .if1 .left (e ∙ z)), ap (λ (n : ℕ). length (head 1 n)) e)
 
-same-length : tie.Need-same-length
-same-length c = search needs
-
 returns-2 : tie.Need-returns-2
 returns-2 c = let d = packed (c .before .before .before .before .before .before .before .before .before .before .before .before .args .numbers .now) in let e = like-within (c .before .before .before .before .before .before .before .before .before .len-packed .ensures .0) (c .before .before .before .before .before .before .before .before .before .before .before .before .pre .0) in rw (text-some 1 d (λ (z : length d ≡ 0). c .before .before .before .before .before .before .before .before .if1 .left (e ∙ z)), ← e) (search puts)
 
@@ -32,9 +26,9 @@ pub put-numbers-spec : {M : Type 1} → statement M
 put-numbers-spec =
     tie.close
     (tie.spec
-    len-packed-requires
+    (λ c κs. search needs)
     returns
     put-head-requires
     put-packed-requires
-    same-length
+    (λ c. search needs)
     returns-2)

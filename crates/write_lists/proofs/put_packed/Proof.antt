@@ -17,20 +17,8 @@ abbrev μ-loop : tie.MeasureT-loop
 loop-holds : tie.Need-loop-holds Inv-loop μ-loop
 loop-holds c = let a = c .before .before .args in (search needs, fill-start (a .out .now) (a .at) (packed (a .numbers .now)))
 
-mul-put-varint : tie.Need-mul-put-varint Inv-loop μ-loop
-mul-put-varint c = search needs
-
-shared-slice-read-put-varint : tie.Need-shared-slice-read-put-varint Inv-loop μ-loop
-shared-slice-read-put-varint c = search needs
-
 put-varint-requires : tie.Need-put-varint-requires Inv-loop μ-loop
 put-varint-requires c κs = let l = c .before .before .before .loop in let vs = c .before .before .before .before .before .before .args .numbers .now in fill-room (l .inv .1) (varint (getD vs (l .i) 0)) (packed (drop (l .i + 1) vs)) (next-number vs (l .i) (c .before .before .loop-test .taken)) (c .before .before .before .before .before .before .pre)
-
-add-i : tie.Need-add-i Inv-loop μ-loop
-add-i c = search needs
-
-loop-less : tie.Need-loop-less Inv-loop μ-loop
-loop-less c = search needs
 
 loop-again : tie.Need-loop-again Inv-loop μ-loop
 loop-again c = let l = c .before .before .before .before .before .before .loop in (omega arith, fill-more (l .inv .1) _ (next-number (c .before .before .before .before .before .before .before .before .before .args .numbers .now) (l .i) (c .before .before .before .before .before .loop-test .taken)) (c .before .before .put-varint .ensures))
@@ -48,11 +36,11 @@ put-packed-spec =
     Inv-loop
     μ-loop
     loop-holds
-    mul-put-varint
-    shared-slice-read-put-varint
+    (λ c. search needs)
+    (λ c. search needs)
     put-varint-requires
-    add-i
-    loop-less
+    (λ c. search needs)
+    (λ c. search needs)
     loop-again
     same-length
     returns)

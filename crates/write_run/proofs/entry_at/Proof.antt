@@ -5,18 +5,6 @@ use borrow.Author.Needs.{needs}
 use Rattle.write_run.proofs.entry_at.Statement.{statement}
 use Rattle.write_run.proofs.entry_at.Tie as tie
 
-tag-at-requires : tie.Need-tag-at-requires
-tag-at-requires c κs = search needs
-
-enum-known-refusal : tie.Need-enum-known-refusal
-enum-known-refusal c = search needs
-
-enum-known-number : tie.Need-enum-known-number
-enum-known-number c = search needs
-
-payload-at-requires : tie.Need-payload-at-requires
-payload-at-requires c κs = search needs
-
 returns : tie.Need-returns
 unfolding entryAt entryOf
 returns c = rw (sym (c .before .before .before .before .before .before .tag-at .ensures) ∙ c .before .before .before .before .number .given .1, eq-eqb _ _ (c .before .before .if1 .taken), eq-eqb _ _ (c .before .if2 .taken)) (c .payload-at .ensures)
@@ -37,10 +25,10 @@ pub entry-at-spec : {M : Type 1} → statement M
 entry-at-spec =
     tie.close
     (tie.spec
-    tag-at-requires
-    enum-known-refusal
-    enum-known-number
-    payload-at-requires
+    (λ c κs. search needs)
+    (λ c. search needs)
+    (λ c. search needs)
+    (λ c κs. search needs)
     returns
     returns-2
     returns-3

@@ -47,12 +47,6 @@ afterwards c x e =
 loop-holds : tie.Need-loop-holds Inv-loop μ-loop
 loop-holds c = (omega arith, refl)
 
-entry-at-requires : tie.Need-entry-at-requires Inv-loop μ-loop
-entry-at-requires c κs = search needs
-
-enum-known-next : tie.Need-enum-known-next Inv-loop μ-loop
-enum-known-next c = search needs
-
 loop-less : tie.Need-loop-less Inv-loop μ-loop
 loop-less c = let h = after (c .before .before .before) _ (c .before .next .given .1) .0 in omega arith
 
@@ -60,18 +54,12 @@ loop-again : tie.Need-loop-again Inv-loop μ-loop
 unfolding onEntry
 loop-again c = let h = after (c .before .before .before) _ (c .before .next .given .1) in (h .0 .1, h .1)
 
-enum-known-next-2 : tie.Need-enum-known-next-2 Inv-loop μ-loop
-enum-known-next-2 c = search needs
-
 loop-less-2 : tie.Need-loop-less-2 Inv-loop μ-loop
 loop-less-2 c = let h = after (c .before .before .before) _ (c .before .next2 .given .1) .0 in omega arith
 
 loop-again-2 : tie.Need-loop-again-2 Inv-loop μ-loop
 unfolding onEntry
 loop-again-2 c = let h = after (c .before .before .before) _ (c .before .next2 .given .1) in (h .0 .1, h .1)
-
-enum-known-start : tie.Need-enum-known-start Inv-loop μ-loop
-enum-known-start c = search needs
 
 sub-check : tie.Need-sub-check Inv-loop μ-loop
 sub-check c = after (c .before .before .before) _ (c .before .start .given .1) .0 .1
@@ -82,12 +70,6 @@ part-check-start c = let h = after (c .before .before .before) _ (c .before .sta
 part-check-end : tie.Need-part-check-end Inv-loop μ-loop
 part-check-end c = let h = after (c .before .before .before) _ (c .before .start .given .1) .0 in omega arith
 
-check-requires : tie.Need-check-requires Inv-loop μ-loop
-check-requires c κs = search needs
-
-enum-told : tie.Need-enum-told Inv-loop μ-loop
-enum-told c = search needs
-
 loop-less-3 : tie.Need-loop-less-3 Inv-loop μ-loop
 loop-less-3 c = let h = after (c .before .before .before .before .before .before .before) _ (c .before .before .before .before .before .start .given .1) .0 in omega arith
 
@@ -95,18 +77,12 @@ loop-again-3 : tie.Need-loop-again-3 Inv-loop μ-loop
 unfolding before
 loop-again-3 c = (after (c .before .before .before .before .before .before .before) _ (c .before .before .before .before .before .start .given .1) .0 .2, afterwards (c .before .before) _ (c .enum-told .given .1))
 
-enum-known-refusal : tie.Need-enum-known-refusal Inv-loop μ-loop
-enum-known-refusal c = search needs
-
 add-t20 : tie.Need-add-t20 Inv-loop μ-loop
 add-t20 c = let h = after (c .before .before .before .before .before .before .before .before) _ (c .before .before .before .before .before .before .start .given .1) .0 in let s = c .before .before .before .before .before .before .before .before .before .before .before .before .args .s .now in let p : List ℕ = part s (c .before .before .before .before .before .before .start .given .0 .0) (c .before .before .before .before .before .before .start .given .0 .1 .0) in let q = subst (Placed p) (sym (c .before .before .before .check .ensures) ∙ c .before .refusal .given .1) (placed 11 p 0) in omega (arith, length-part s (c .before .before .before .before .before .before .start .given .0 .0) (c .before .before .before .before .before .before .start .given .0 .1 .0) (h .1) (h .2), q)
 
 returns : tie.Need-returns Inv-loop μ-loop
 unfolding before
 returns c = afterwards (c .before .before .before) _ (c .before .refusal .given .1)
-
-enum-known-refusal-2 : tie.Need-enum-known-refusal-2 Inv-loop μ-loop
-enum-known-refusal-2 c = search needs
 
 returns-2 : tie.Need-returns-2 Inv-loop μ-loop
 unfolding onEntry
@@ -122,24 +98,24 @@ run-check-spec =
     Inv-loop
     μ-loop
     loop-holds
-    entry-at-requires
-    enum-known-next
+    (λ c κs. search needs)
+    (λ c. search needs)
     loop-less
     loop-again
-    enum-known-next-2
+    (λ c. search needs)
     loop-less-2
     loop-again-2
-    enum-known-start
+    (λ c. search needs)
     sub-check
     part-check-start
     part-check-end
-    check-requires
-    enum-told
+    (λ c κs. search needs)
+    (λ c. search needs)
     loop-less-3
     loop-again-3
-    enum-known-refusal
+    (λ c. search needs)
     add-t20
     returns
-    enum-known-refusal-2
+    (λ c. search needs)
     returns-2
     returns-3)

@@ -9,15 +9,9 @@ returns : tie.Need-returns
 unfolding timeFits
 returns c = search tests
 
-moment-fits-requires : tie.Need-moment-fits-requires
-moment-fits-requires c κs = search needs
-
-both-requires : tie.Need-both-requires
-both-requires c κs = search needs
-
 returns-2 : tie.Need-returns-2
 unfolding timeFits
 returns-2 c = rw (ne-eqb (c .before .before .before .args .member) 0 (c .before .before .if1 .left), ← c .before .moment-fits .ensures) (c .both .ensures)
 
 pub time-fits-spec : {M : Type 1} → statement M
-time-fits-spec = tie.close (tie.spec returns moment-fits-requires both-requires returns-2)
+time-fits-spec = tie.close (tie.spec returns (λ c κs. search needs) (λ c κs. search needs) returns-2)

@@ -8,29 +8,8 @@ use borrow.Author.Needs.{needs}
 use Rattle.write_server.proofs.write_note.Statement.{statement}
 use Rattle.write_server.proofs.write_note.Tie as tie
 
-both-requires : tie.Need-both-requires
-both-requires c κs = search needs
-
-listed-requires : tie.Need-listed-requires
-listed-requires c κs = search needs
-
-slice-aggregate-write-plain : tie.Need-slice-aggregate-write-plain
-slice-aggregate-write-plain c = search needs
-
-slice-aggregate-write-plain-2 : tie.Need-slice-aggregate-write-plain-2
-slice-aggregate-write-plain-2 c = search needs
-
-slice-aggregate-write-plain-3 : tie.Need-slice-aggregate-write-plain-3
-slice-aggregate-write-plain-3 c = search needs
-
-slice-aggregate-write-plain-4 : tie.Need-slice-aggregate-write-plain-4
-slice-aggregate-write-plain-4 c = search needs
-
 write-plain-requires : tie.Need-write-plain-requires
 write-plain-requires c κs = λ h. let m = note-member (c .before .before .before .before .before .before .before .before .before .args .member) (c .before .before .before .before .before .before .both .ensures) h in omega arith
-
-same-length : tie.Need-same-length
-same-length c = search needs
 
 returns : tie.Need-returns
 unfolding encode around cover
@@ -40,12 +19,12 @@ pub write-note-spec : {M : Type 1} → statement M
 write-note-spec =
     tie.close
     (tie.spec
-    both-requires
-    listed-requires
-    slice-aggregate-write-plain
-    slice-aggregate-write-plain-2
-    slice-aggregate-write-plain-3
-    slice-aggregate-write-plain-4
+    (λ c κs. search needs)
+    (λ c κs. search needs)
+    (λ c. search needs)
+    (λ c. search needs)
+    (λ c. search needs)
+    (λ c. search needs)
     write-plain-requires
-    same-length
+    (λ c. search needs)
     returns)

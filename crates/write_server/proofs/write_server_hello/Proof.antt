@@ -13,38 +13,8 @@ use borrow.Author.Needs.{needs}
 use Rattle.write_server.proofs.write_server_hello.Statement.{statement}
 use Rattle.write_server.proofs.write_server_hello.Tie as tie
 
-member-in-requires : tie.Need-member-in-requires
-member-in-requires c κs = search needs
-
-ends-fit-requires : tie.Need-ends-fit-requires
-ends-fit-requires c κs = search needs
-
-both-requires : tie.Need-both-requires
-both-requires c κs = search needs
-
-flag-requires : tie.Need-flag-requires
-flag-requires c κs = search needs
-
-listed-requires : tie.Need-listed-requires
-listed-requires c κs = search needs
-
-slice-aggregate-write-message : tie.Need-slice-aggregate-write-message
-slice-aggregate-write-message c = search needs
-
-slice-aggregate-write-message-2 : tie.Need-slice-aggregate-write-message-2
-slice-aggregate-write-message-2 c = search needs
-
-slice-aggregate-write-message-3 : tie.Need-slice-aggregate-write-message-3
-slice-aggregate-write-message-3 c = search needs
-
-slice-aggregate-write-message-4 : tie.Need-slice-aggregate-write-message-4
-slice-aggregate-write-message-4 c = search needs
-
 write-message-requires : tie.Need-write-message-requires
 write-message-requires c κs = (λ h. member-small 1 1 _ (omega arith) (c .before .before .before .before .before .before .before .before .before .member-in .ensures) (both-true _ (c .before .before .before .before .before .before .before .before .ends-fit .result) (sym (c .before .before .before .before .before .before .before .both .ensures) ∙ h) .0), λ h. not-true _ (sym (c .before .before .before .before .before .before .before .before .ends-fit .ensures) ∙ both-true (c .before .before .before .before .before .before .before .before .before .member-in .result) _ (sym (c .before .before .before .before .before .before .before .both .ensures) ∙ h) .1))
-
-same-length : tie.Need-same-length
-same-length c = search needs
 
 returns : tie.Need-returns
 unfolding encode around cover packed endsFit
@@ -54,15 +24,15 @@ pub write-server-hello-spec : {M : Type 1} → statement M
 write-server-hello-spec =
     tie.close
     (tie.spec
-    member-in-requires
-    ends-fit-requires
-    both-requires
-    flag-requires
-    listed-requires
-    slice-aggregate-write-message
-    slice-aggregate-write-message-2
-    slice-aggregate-write-message-3
-    slice-aggregate-write-message-4
+    (λ c κs. search needs)
+    (λ c κs. search needs)
+    (λ c κs. search needs)
+    (λ c κs. search needs)
+    (λ c κs. search needs)
+    (λ c. search needs)
+    (λ c. search needs)
+    (λ c. search needs)
+    (λ c. search needs)
     write-message-requires
-    same-length
+    (λ c. search needs)
     returns)

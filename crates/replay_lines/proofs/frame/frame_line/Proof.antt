@@ -3,15 +3,6 @@ use borrow.Author.Needs.{needs}
 use Rattle.replay_lines.proofs.frame.frame_line.Statement.{statement}
 use Rattle.replay_lines.proofs.frame.frame_line.Tie as tie
 
-member-of-requires : tie.Need-member-of-requires
-member-of-requires c κs = search needs
-
-put-frame-requires : tie.Need-put-frame-requires
-put-frame-requires c κs = search needs
-
-same-length : tie.Need-same-length
-same-length c = search needs
-
 returns : tie.Need-returns
 returns c = rw (← c .before .before .before .member-of .ensures) (room (c .before .before .before .before .before .if1 .taken) (c .before .before .put-frame .ensures))
 
@@ -20,4 +11,4 @@ returns-2 c = no-room _ _ (c .if1 .left)
 
 pub frame-line-spec : {M : Type 1} → statement M
 frame-line-spec =
-    tie.close (tie.spec member-of-requires put-frame-requires same-length returns returns-2)
+    tie.close (tie.spec (λ c κs. search needs) (λ c κs. search needs) (λ c. search needs) returns returns-2)

@@ -6,18 +6,6 @@ use borrow.Author.Needs.{needs}
 use Rattle.replay_lines.proofs.frame.put_key.Statement.{statement}
 use Rattle.replay_lines.proofs.frame.put_key.Tie as tie
 
-slice-aggregate-put-raw : tie.Need-slice-aggregate-put-raw
-slice-aggregate-put-raw c = search needs
-
-put-raw-requires : tie.Need-put-raw-requires
-put-raw-requires c κs = search needs
-
-put-decimal-requires : tie.Need-put-decimal-requires
-put-decimal-requires c κs = search needs
-
-same-length : tie.Need-same-length
-same-length c = search needs
-
 returns : tie.Need-returns
 unfolding keyText
 returns c = rw (eq-eqb (c .before .before .before .before .before .before .before .before .before .before .before .args .refusal) 8 (c .before .before .before .before .before .before .before .before .before .if1 .taken)) (then (c .before .before .before .before .before .before .put-raw .ensures) (c .before .before .put-decimal .ensures .0), omega arith)
@@ -30,9 +18,9 @@ pub put-key-spec : {M : Type 1} → statement M
 put-key-spec =
     tie.close
     (tie.spec
-    slice-aggregate-put-raw
-    put-raw-requires
-    put-decimal-requires
-    same-length
+    (λ c. search needs)
+    (λ c κs. search needs)
+    (λ c κs. search needs)
+    (λ c. search needs)
     returns
     returns-2)

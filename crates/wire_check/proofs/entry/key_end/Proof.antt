@@ -10,25 +10,13 @@ use Rattle.wire_check.proofs.entry.key_end.Tie as tie
 returns : tie.Need-returns
 returns c = no-value _ (omega arith)
 
-shared-slice-read-if2 : tie.Need-shared-slice-read-if2
-shared-slice-read-if2 c = search needs
-
 returns-2 : tie.Need-returns-2
 unfolding keyEnd
 returns-2 c = rw (ne-eqb _ 10 (c .if2 .taken))
 
-shared-slice-read-wide : tie.Need-shared-slice-read-wide
-shared-slice-read-wide c = search needs
-
-wide-requires : tie.Need-wide-requires
-wide-requires c κs = search needs
-
 returns-3 : tie.Need-returns-3
 unfolding keyEnd
 returns-3 c = let w = c .before in rw (eq-eqb _ 10 (w .before .before .if2 .left), sym (w .wide .ensures), le-ltb _ 128 (c .if3 .taken))
-
-add-end : tie.Need-add-end
-add-end c = search needs
 
 returns-4 : tie.Need-returns-4
 returns-4 c = no-value _ (omega arith)
@@ -43,11 +31,11 @@ key-end-spec =
     tie.close
     (tie.spec
     returns
-    shared-slice-read-if2
+    (λ c. search needs)
     returns-2
-    shared-slice-read-wide
-    wide-requires
+    (λ c. search needs)
+    (λ c κs. search needs)
     returns-3
-    add-end
+    (λ c. search needs)
     returns-4
     returns-5)

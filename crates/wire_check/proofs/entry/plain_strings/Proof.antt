@@ -20,20 +20,8 @@ abbrev μ-loop : tie.MeasureT-loop
 loop-holds : tie.Need-loop-holds Inv-loop μ-loop
 loop-holds c = (omega arith, refl)
 
-shared-slice-read-if1 : tie.Need-shared-slice-read-if1 Inv-loop μ-loop
-shared-slice-read-if1 c = search needs
-
 returns : tie.Need-returns Inv-loop μ-loop
 returns c = unsaid
-
-add-part-found : tie.Need-add-part-found Inv-loop μ-loop
-add-part-found c = search needs
-
-part-found-requires : tie.Need-part-found-requires Inv-loop μ-loop
-part-found-requires c κs = search needs
-
-enum-known-end : tie.Need-enum-known-end Inv-loop μ-loop
-enum-known-end c = search needs
 
 -- past a string: how far it reaches, and that the check goes on there
 past : (c : tie.After-known-told Inv-loop μ-loop)
@@ -49,9 +37,6 @@ loop-less c = let h = past c in omega arith
 loop-again : tie.Need-loop-again Inv-loop μ-loop
 loop-again c = let h = past c in (h .1, sym (h .2) ∙ c .before .before .before .before .before .before .before .loop .inv .1)
 
-enum-told : tie.Need-enum-told Inv-loop μ-loop
-enum-told c = search needs
-
 returns-2 : tie.Need-returns-2 Inv-loop μ-loop
 returns-2 c = unsaid
 
@@ -65,13 +50,13 @@ plain-strings-spec =
     Inv-loop
     μ-loop
     loop-holds
-    shared-slice-read-if1
+    (λ c. search needs)
     returns
-    add-part-found
-    part-found-requires
-    enum-known-end
+    (λ c. search needs)
+    (λ c κs. search needs)
+    (λ c. search needs)
     loop-less
     loop-again
-    enum-told
+    (λ c. search needs)
     returns-2
     returns-3)

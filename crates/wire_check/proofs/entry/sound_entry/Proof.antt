@@ -5,18 +5,6 @@ use borrow.Author.Needs.{needs}
 use Rattle.wire_check.proofs.entry.sound_entry.Statement.{statement}
 use Rattle.wire_check.proofs.entry.sound_entry.Tie as tie
 
-plain-entry-requires : tie.Need-plain-entry-requires
-plain-entry-requires c κs = search needs
-
-enum-told : tie.Need-enum-told
-enum-told c = search needs
-
-enum-told-2 : tie.Need-enum-told-2
-enum-told-2 c = search needs
-
-enum-known-start : tie.Need-enum-known-start
-enum-known-start c = search needs
-
 sub-plain-strings : tie.Need-sub-plain-strings
 unfolding Formed
 sub-plain-strings c = let p = c .before .before .before in
@@ -26,18 +14,6 @@ part-plain-strings-start : tie.Need-part-plain-strings-start
 unfolding Formed
 part-plain-strings-start c = let p = c .before .before .before in
     subst (Formed (p .before .before .args .s .now)) (c .before .start .given .1) (p .plain-entry .ensures) .0 .within
-
-part-plain-strings-end : tie.Need-part-plain-strings-end
-part-plain-strings-end c = search needs
-
-plain-strings-requires : tie.Need-plain-strings-requires
-plain-strings-requires c κs = search needs
-
-enum-told-3 : tie.Need-enum-told-3
-enum-told-3 c = search needs
-
-enum-told-4 : tie.Need-enum-told-4
-enum-told-4 c = search needs
 
 returns : tie.Need-returns
 unfolding Formed
@@ -65,16 +41,16 @@ pub sound-entry-spec : {M : Type 1} → statement M
 sound-entry-spec =
     tie.close
     (tie.spec
-    plain-entry-requires
-    enum-told
-    enum-told-2
-    enum-known-start
+    (λ c κs. search needs)
+    (λ c. search needs)
+    (λ c. search needs)
+    (λ c. search needs)
     sub-plain-strings
     part-plain-strings-start
-    part-plain-strings-end
-    plain-strings-requires
-    enum-told-3
-    enum-told-4
+    (λ c. search needs)
+    (λ c κs. search needs)
+    (λ c. search needs)
+    (λ c. search needs)
     returns
     returns-2
     returns-3

@@ -4,14 +4,8 @@ use borrow.Author.Needs.{needs}
 use Rattle.wire_range.proofs.limits.date_in.Statement.{statement}
 use Rattle.wire_range.proofs.limits.date_in.Tie as tie
 
-time-in-requires : tie.Need-time-in-requires
-time-in-requires c κs = search needs
-
-date-fits-requires : tie.Need-date-fits-requires
-date-fits-requires c κs = search needs
-
 returns : tie.Need-returns
 returns c = let a = c .before .before .before .args in c .date-fits .ensures ∙ rw (c .before .time-in .ensures, time-means (a .number) (a .s .now))
 
 pub date-in-spec : {M : Type 1} → statement M
-date-in-spec = tie.close (tie.spec time-in-requires date-fits-requires returns)
+date-in-spec = tie.close (tie.spec (λ c κs. search needs) (λ c κs. search needs) returns)

@@ -22,12 +22,6 @@ loop-holds : tie.Need-loop-holds Inv-loop μ-loop
 unfolding entries
 loop-holds c = rw (all-elements (c .before .args .number) (c .before .args .s .now))
 
-next-part-requires : tie.Need-next-part-requires Inv-loop μ-loop
-next-part-requires c κs = search needs
-
-enum-known-start : tie.Need-enum-known-start Inv-loop μ-loop
-enum-known-start c = search needs
-
 sub-entry-fits : tie.Need-sub-entry-fits Inv-loop μ-loop
 sub-entry-fits c = found-lies (c .before .before .before .before .before .before .args .number) (c .before .before .before .before .before .before .args .s .now) (c .before .before .before .before .loop .at) (sym (c .before .before .before .next-part .ensures) ∙ c .before .start .given .1) .1
 
@@ -36,9 +30,6 @@ part-entry-fits-start c = let h = found-lies (c .before .before .before .before 
 
 part-entry-fits-end : tie.Need-part-entry-fits-end Inv-loop μ-loop
 part-entry-fits-end c = let h = found-lies (c .before .before .before .before .before .before .args .number) (c .before .before .before .before .before .before .args .s .now) (c .before .before .before .before .loop .at) (sym (c .before .before .before .next-part .ensures) ∙ c .before .start .given .1) in omega arith
-
-entry-fits-requires : tie.Need-entry-fits-requires Inv-loop μ-loop
-entry-fits-requires c κs = search needs
 
 loop-less : tie.Need-loop-less Inv-loop μ-loop
 loop-less c = let h = found-lies (c .before .before .before .before .before .before .before .before .before .args .number) (c .before .before .before .before .before .before .before .before .before .args .s .now) (c .before .before .before .before .before .before .before .loop .at) (sym (c .before .before .before .before .before .before .next-part .ensures) ∙ c .before .before .before .before .start .given .1) in omega arith
@@ -51,9 +42,6 @@ returns : tie.Need-returns Inv-loop μ-loop
 unfolding entriesFit
 returns c = rw (found-part (c .before .before .before .before .before .before .before .before .before .args .number) (c .before .before .before .before .before .before .before .before .before .args .s .now) (c .before .before .before .before .before .before .before .loop .at) (sym (c .before .before .before .before .before .before .next-part .ensures) ∙ c .before .before .before .before .start .given .1), sym (c .before .entry-fits .ensures) ∙ c .if1 .left) at (c .before .before .before .before .before .before .before .loop .inv)
 
-enum-told : tie.Need-enum-told Inv-loop μ-loop
-enum-told c = search needs
-
 returns-2 : tie.Need-returns-2 Inv-loop μ-loop
 unfolding entriesFit
 returns-2 c = rw (found-none (c .before .before .before .before .before .args .number) (c .before .before .before .before .before .args .s .now) (c .before .before .before .loop .at) (sym (c .before .before .next-part .ensures) ∙ c .enum-told .given .1)) at (c .before .before .before .loop .inv)
@@ -65,14 +53,14 @@ entries-fit-spec =
     Inv-loop
     μ-loop
     loop-holds
-    next-part-requires
-    enum-known-start
+    (λ c κs. search needs)
+    (λ c. search needs)
     sub-entry-fits
     part-entry-fits-start
     part-entry-fits-end
-    entry-fits-requires
+    (λ c κs. search needs)
     loop-less
     loop-again
     returns
-    enum-told
+    (λ c. search needs)
     returns-2)

@@ -5,12 +5,6 @@ use borrow.Author.Needs.{needs}
 use Rattle.wire_range.proofs.limits.entry_fits.Statement.{statement}
 use Rattle.wire_range.proofs.limits.entry_fits.Tie as tie
 
-length-in-requires : tie.Need-length-in-requires
-length-in-requires c κs = search needs
-
-value-is-set-requires : tie.Need-value-is-set-requires
-value-is-set-requires c κs = search needs
-
 returns : tie.Need-returns
 unfolding entryFits entry
 returns c = rw (← c .before .before .length-in .ensures, le-leb _ _ (c .before .if1 .taken)) (c .value-is-set .ensures)
@@ -20,4 +14,4 @@ unfolding entryFits entry
 returns-2 c = rw (← c .before .length-in .ensures, lt-leb _ _ (c .if1 .left))
 
 pub entry-fits-spec : {M : Type 1} → statement M
-entry-fits-spec = tie.close (tie.spec length-in-requires value-is-set-requires returns returns-2)
+entry-fits-spec = tie.close (tie.spec (λ c κs. search needs) (λ c κs. search needs) returns returns-2)

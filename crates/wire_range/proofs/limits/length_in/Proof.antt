@@ -6,9 +6,6 @@ use borrow.Author.Needs.{needs}
 use Rattle.wire_range.proofs.limits.length_in.Statement.{statement}
 use Rattle.wire_range.proofs.limits.length_in.Tie as tie
 
-part-in-requires : tie.Need-part-in-requires
-part-in-requires c κs = search needs
-
 sub-result : tie.Need-sub-result
 sub-result c = let a = c .before .before .before .args in rw (c .before .part-in .ensures) (span-lies (a .s .now) (a .number) .0)
 
@@ -16,4 +13,4 @@ returns : tie.Need-returns
 returns c = let a = c .before .before .before .args in let l = span-lies (a .s .now) (a .number) in rw (c .before .part-in .ensures, ← bytes-means (a .s .now) (a .number)) (sym (length-part (a .s .now) _ _ (l .0) (l .1)))
 
 pub length-in-spec : {M : Type 1} → statement M
-length-in-spec = tie.close (tie.spec part-in-requires sub-result returns)
+length-in-spec = tie.close (tie.spec (λ c κs. search needs) sub-result returns)

@@ -8,9 +8,6 @@ use borrow.Author.Needs.{needs}
 use Rattle.wire_range.proofs.limits.moment_fits.Statement.{statement}
 use Rattle.wire_range.proofs.limits.moment_fits.Tie as tie
 
-date-fits-requires : tie.Need-date-fits-requires
-date-fits-requires c κs = search needs
-
 returns : tie.Need-returns
 unfolding momentFits timeValue int64
 returns c = rw (up-to 4294967295 9223372036854775808 (c .before .before .before .args .t .seconds) (lit≤ tt), le-leb _ _ (c .before .if1 .taken)) (c .date-fits .ensures)
@@ -20,4 +17,4 @@ unfolding momentFits timeValue int64
 returns-2 c = rw (up-to 4294967295 9223372036854775808 (c .before .before .args .t .seconds) (lit≤ tt), lt-leb _ _ (c .if1 .left))
 
 pub moment-fits-spec : {M : Type 1} → statement M
-moment-fits-spec = tie.close (tie.spec date-fits-requires returns returns-2)
+moment-fits-spec = tie.close (tie.spec (λ c κs. search needs) returns returns-2)

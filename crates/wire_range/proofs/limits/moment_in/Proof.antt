@@ -4,14 +4,8 @@ use borrow.Author.Needs.{needs}
 use Rattle.wire_range.proofs.limits.moment_in.Statement.{statement}
 use Rattle.wire_range.proofs.limits.moment_in.Tie as tie
 
-time-in-requires : tie.Need-time-in-requires
-time-in-requires c κs = search needs
-
-moment-fits-requires : tie.Need-moment-fits-requires
-moment-fits-requires c κs = search needs
-
 returns : tie.Need-returns
 returns c = let a = c .before .before .before .args in c .moment-fits .ensures ∙ rw (c .before .time-in .ensures, time-means (a .number) (a .s .now))
 
 pub moment-in-spec : {M : Type 1} → statement M
-moment-in-spec = tie.close (tie.spec time-in-requires moment-fits-requires returns)
+moment-in-spec = tie.close (tie.spec (λ c κs. search needs) (λ c κs. search needs) returns)

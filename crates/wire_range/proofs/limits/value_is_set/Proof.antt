@@ -4,24 +4,6 @@ use borrow.Author.Needs.{needs}
 use Rattle.wire_range.proofs.limits.value_is_set.Statement.{statement}
 use Rattle.wire_range.proofs.limits.value_is_set.Tie as tie
 
-value-in-requires : tie.Need-value-in-requires
-value-in-requires c κs = search needs
-
-enum-told : tie.Need-enum-told
-enum-told c = search needs
-
-enum-told-2 : tie.Need-enum-told-2
-enum-told-2 c = search needs
-
-enum-told-3 : tie.Need-enum-told-3
-enum-told-3 c = search needs
-
-enum-told-4 : tie.Need-enum-told-4
-enum-told-4 c = search needs
-
-enum-told-5 : tie.Need-enum-told-5
-enum-told-5 c = search needs
-
 returns : tie.Need-returns
 unfolding isSet valueAt
 returns c = rw (← c .before .before .value-in .ensures, c .enum-told .given .1)
@@ -46,12 +28,12 @@ pub value-is-set-spec : {M : Type 1} → statement M
 value-is-set-spec =
     tie.close
     (tie.spec
-    value-in-requires
-    enum-told
-    enum-told-2
-    enum-told-3
-    enum-told-4
-    enum-told-5
+    (λ c κs. search needs)
+    (λ c. search needs)
+    (λ c. search needs)
+    (λ c. search needs)
+    (λ c. search needs)
+    (λ c. search needs)
     returns
     returns-2
     returns-3

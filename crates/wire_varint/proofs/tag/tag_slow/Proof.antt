@@ -4,21 +4,6 @@ use borrow.Author.Needs.{needs}
 use Rattle.wire_varint.proofs.tag.tag_slow.Statement.{statement}
 use Rattle.wire_varint.proofs.tag.tag_slow.Tie as tie
 
-varint-at-requires : tie.Need-varint-at-requires
-varint-at-requires c κs = search needs
-
-enum-known-value : tie.Need-enum-known-value
-enum-known-value c = search needs
-
-tag-of-requires : tie.Need-tag-of-requires
-tag-of-requires c κs = search needs
-
-enum-told : tie.Need-enum-told
-enum-told c = search needs
-
-enum-told-2 : tie.Need-enum-told-2
-enum-told-2 c = search needs
-
 returns : tie.Need-returns
 unfolding tagAt
 returns c = let v = c .before .before in
@@ -36,11 +21,11 @@ pub tag-slow-spec : {M : Type 1} → statement M
 tag-slow-spec =
     tie.close
     (tie.spec
-    varint-at-requires
-    enum-known-value
-    tag-of-requires
-    enum-told
-    enum-told-2
+    (λ c κs. search needs)
+    (λ c. search needs)
+    (λ c κs. search needs)
+    (λ c. search needs)
+    (λ c. search needs)
     returns
     returns-2
     returns-3)

@@ -24,18 +24,6 @@ abbrev μ-loop : tie.MeasureT-loop
 loop-holds : tie.Need-loop-holds Inv-loop μ-loop
 loop-holds c = start _
 
-varint-at-requires : tie.Need-varint-at-requires Inv-loop μ-loop
-varint-at-requires c κs = search needs
-
-enum-known-tag : tie.Need-enum-known-tag Inv-loop μ-loop
-enum-known-tag c = search needs
-
-part-at-requires : tie.Need-part-at-requires Inv-loop μ-loop
-part-at-requires c κs = search needs
-
-enum-known-start : tie.Need-enum-known-start Inv-loop μ-loop
-enum-known-start c = search needs
-
 sub-time-spec : tie.Need-sub-time-spec Inv-loop μ-loop
 sub-time-spec c = let q = c in
     let w = q .before .before .before in
@@ -69,12 +57,6 @@ part-time-spec-end c = let q = c in
     let h = sym (w .part-at .ensures) ∙ q .before .start .given .1 in
     let z = lies 6 _ _ 10 _ _ i (delay-inside g i _ _ tagged (w .before .if1 .taken) _ _ h) in omega arith
 
-time-spec-requires : tie.Need-time-spec-requires Inv-loop μ-loop
-time-spec-requires c κs = search needs
-
-enum-known-x : tie.Need-enum-known-x Inv-loop μ-loop
-enum-known-x c = search needs
-
 loop-less : tie.Need-loop-less Inv-loop μ-loop
 loop-less c = let q = c .before .before .before .before .before in
     let w = q .before .before .before in
@@ -98,9 +80,6 @@ loop-again c = let q = c .before .before .before .before .before in
     let h = sym (w .part-at .ensures) ∙ q .before .start .given .1 in
     let y = c .before .before .before in
     delayed g i _ _ tagged (w .before .if1 .taken) _ _ h _ _ (sym (y .time-spec .ensures) ∙ c .before .x .given .1) .1
-
-enum-known-refusal : tie.Need-enum-known-refusal Inv-loop μ-loop
-enum-known-refusal c = search needs
 
 add-t39 : tie.Need-add-t39 Inv-loop μ-loop
 add-t39 c = let q = c .before .before .before .before .before in
@@ -130,9 +109,6 @@ returns c = let q = c .before .before .before .before .before in
     let y = c .before .before .before in
     delay-stops g i _ _ tagged (w .before .if1 .taken) _ _ h _ _ (sym (y .time-spec .ensures) ∙ c .before .refusal .given .1)
 
-enum-known-refusal-2 : tie.Need-enum-known-refusal-2 Inv-loop μ-loop
-enum-known-refusal-2 c = search needs
-
 returns-2 : tie.Need-returns-2 Inv-loop μ-loop
 returns-2 c = let k = c .before .before .before .before .before in
     let a = k .before .before .before in
@@ -142,9 +118,6 @@ returns-2 c = let k = c .before .before .before .before .before in
     let w = c .before .before .before in
     delay-past g i _ _ tagged (w .before .if1 .taken) _ _ (sym (w .part-at .ensures) ∙ c .before .refusal2 .given .1)
 
-enum-known-after : tie.Need-enum-known-after Inv-loop μ-loop
-enum-known-after c = search needs
-
 loop-less-2 : tie.Need-loop-less-2 Inv-loop μ-loop
 loop-less-2 c = let w = c .before .before .before in
     let z = no-number _ _ _ _ _ (sym (w .part-at .ensures) ∙ c .before .after .given .1) in absurd (omega (arith, z))
@@ -153,9 +126,6 @@ loop-again-2 : tie.Need-loop-again-2 Inv-loop μ-loop
 loop-again-2 c = let w = c .before .before .before in
     let z = no-number _ _ _ _ _ (sym (w .part-at .ensures) ∙ c .before .after .given .1) in absurd (omega (arith, z))
 
-enum-known-after-2 : tie.Need-enum-known-after-2 Inv-loop μ-loop
-enum-known-after-2 c = search needs
-
 loop-less-3 : tie.Need-loop-less-3 Inv-loop μ-loop
 loop-less-3 c = let w = c .before .before .before in
     let z = no-fixed _ _ _ _ (sym (w .part-at .ensures) ∙ c .before .after2 .given .1) in absurd (omega (arith, z))
@@ -163,12 +133,6 @@ loop-less-3 c = let w = c .before .before .before in
 loop-again-3 : tie.Need-loop-again-3 Inv-loop μ-loop
 loop-again-3 c = let w = c .before .before .before in
     let z = no-fixed _ _ _ _ (sym (w .part-at .ensures) ∙ c .before .after2 .given .1) in absurd (omega (arith, z))
-
-part-at-requires-2 : tie.Need-part-at-requires-2 Inv-loop μ-loop
-part-at-requires-2 c κs = search needs
-
-enum-known-start-2 : tie.Need-enum-known-start-2 Inv-loop μ-loop
-enum-known-start-2 c = search needs
 
 loop-less-4 : tie.Need-loop-less-4 Inv-loop μ-loop
 loop-less-4 c = let k = c .before .before .before .before .before .before in
@@ -188,9 +152,6 @@ loop-again-4 c = let k = c .before .before .before .before .before .before in
     let w = c .before .before .before in
     ranged g i _ _ tagged (w .before .if2 .taken) _ _ (sym (w .part-at2 .ensures) ∙ c .before .start2 .given .1) .1
 
-enum-known-refusal-3 : tie.Need-enum-known-refusal-3 Inv-loop μ-loop
-enum-known-refusal-3 c = search needs
-
 returns-3 : tie.Need-returns-3 Inv-loop μ-loop
 returns-3 c = let k = c .before .before .before .before .before .before in
     let a = k .before .before .before in
@@ -200,9 +161,6 @@ returns-3 c = let k = c .before .before .before .before .before .before in
     let w = c .before .before .before in
     range-past g i _ _ tagged (w .before .if2 .taken) _ _ (sym (w .part-at2 .ensures) ∙ c .before .refusal3 .given .1)
 
-enum-known-after-3 : tie.Need-enum-known-after-3 Inv-loop μ-loop
-enum-known-after-3 c = search needs
-
 loop-less-5 : tie.Need-loop-less-5 Inv-loop μ-loop
 loop-less-5 c = let w = c .before .before .before in
     let z = no-number _ _ _ _ _ (sym (w .part-at2 .ensures) ∙ c .before .after3 .given .1) in absurd (omega (arith, z))
@@ -211,9 +169,6 @@ loop-again-5 : tie.Need-loop-again-5 Inv-loop μ-loop
 loop-again-5 c = let w = c .before .before .before in
     let z = no-number _ _ _ _ _ (sym (w .part-at2 .ensures) ∙ c .before .after3 .given .1) in absurd (omega (arith, z))
 
-enum-known-after-4 : tie.Need-enum-known-after-4 Inv-loop μ-loop
-enum-known-after-4 c = search needs
-
 loop-less-6 : tie.Need-loop-less-6 Inv-loop μ-loop
 loop-less-6 c = let w = c .before .before .before in
     let z = no-fixed _ _ _ _ (sym (w .part-at2 .ensures) ∙ c .before .after4 .given .1) in absurd (omega (arith, z))
@@ -221,12 +176,6 @@ loop-less-6 c = let w = c .before .before .before in
 loop-again-6 : tie.Need-loop-again-6 Inv-loop μ-loop
 loop-again-6 c = let w = c .before .before .before in
     let z = no-fixed _ _ _ _ (sym (w .part-at2 .ensures) ∙ c .before .after4 .given .1) in absurd (omega (arith, z))
-
-rest-at-requires : tie.Need-rest-at-requires Inv-loop μ-loop
-rest-at-requires c κs = search needs
-
-enum-known-after-5 : tie.Need-enum-known-after-5 Inv-loop μ-loop
-enum-known-after-5 c = search needs
 
 loop-less-7 : tie.Need-loop-less-7 Inv-loop μ-loop
 loop-less-7 c = let k = c .before .before .before .before .before .before in
@@ -246,9 +195,6 @@ loop-again-7 c = let k = c .before .before .before .before .before .before in
     let w = c .before .before .before in
     rest g i _ _ tagged (w .before .before .if1 .left) (w .before .if2 .left) _ (sym (w .rest-at .ensures) ∙ c .before .after5 .given .1) .1
 
-enum-known-end : tie.Need-enum-known-end Inv-loop μ-loop
-enum-known-end c = search needs
-
 loop-less-8 : tie.Need-loop-less-8 Inv-loop μ-loop
 loop-less-8 c = let k = c .before .before .before .before .before .before in
     let a = k .before .before .before in
@@ -267,9 +213,6 @@ loop-again-8 c = let k = c .before .before .before .before .before .before in
     let w = c .before .before .before in
     let z = no-inside g i _ _ tagged (w .before .before .if1 .left) _ _ _ (sym (w .rest-at .ensures) ∙ c .before .end .given .1) in absurd (omega (arith, z))
 
-enum-known-refusal-4 : tie.Need-enum-known-refusal-4 Inv-loop μ-loop
-enum-known-refusal-4 c = search needs
-
 returns-4 : tie.Need-returns-4 Inv-loop μ-loop
 returns-4 c = let k = c .before .before .before .before .before .before in
     let a = k .before .before .before in
@@ -279,16 +222,10 @@ returns-4 c = let k = c .before .before .before .before .before .before in
     let w = c .before .before .before in
     stop g i _ _ (rest-stops 6 _ _ _ _ (omega arith) tagged _ _ (sym (w .rest-at .ensures) ∙ c .before .refusal4 .given .1))
 
-enum-told : tie.Need-enum-told Inv-loop μ-loop
-enum-told c = search needs
-
 returns-5 : tie.Need-returns-5 Inv-loop μ-loop
 unfolding tagOf
 returns-5 c = let a = c .before .before in
     stop (a .before .before .loop .inv) (a .before .loop-test .taken) _ _ (no-tag 6 _ _ (omega arith) _ (sym (a .varint-at .ensures) ∙ c .enum-told .given .1) refl)
-
-enum-told-2 : tie.Need-enum-told-2 Inv-loop μ-loop
-enum-told-2 c = search needs
 
 returns-6 : tie.Need-returns-6 Inv-loop μ-loop
 unfolding tagOf
@@ -305,51 +242,51 @@ io-buffer-spec =
     Inv-loop
     μ-loop
     loop-holds
-    varint-at-requires
-    enum-known-tag
-    part-at-requires
-    enum-known-start
+    (λ c κs. search needs)
+    (λ c. search needs)
+    (λ c κs. search needs)
+    (λ c. search needs)
     sub-time-spec
     part-time-spec-start
     part-time-spec-end
-    time-spec-requires
-    enum-known-x
+    (λ c κs. search needs)
+    (λ c. search needs)
     loop-less
     loop-again
-    enum-known-refusal
+    (λ c. search needs)
     add-t39
     returns
-    enum-known-refusal-2
+    (λ c. search needs)
     returns-2
-    enum-known-after
+    (λ c. search needs)
     loop-less-2
     loop-again-2
-    enum-known-after-2
+    (λ c. search needs)
     loop-less-3
     loop-again-3
-    part-at-requires-2
-    enum-known-start-2
+    (λ c κs. search needs)
+    (λ c. search needs)
     loop-less-4
     loop-again-4
-    enum-known-refusal-3
+    (λ c. search needs)
     returns-3
-    enum-known-after-3
+    (λ c. search needs)
     loop-less-5
     loop-again-5
-    enum-known-after-4
+    (λ c. search needs)
     loop-less-6
     loop-again-6
-    rest-at-requires
-    enum-known-after-5
+    (λ c κs. search needs)
+    (λ c. search needs)
     loop-less-7
     loop-again-7
-    enum-known-end
+    (λ c. search needs)
     loop-less-8
     loop-again-8
-    enum-known-refusal-4
+    (λ c. search needs)
     returns-4
-    enum-told
+    (λ c. search needs)
     returns-5
-    enum-told-2
+    (λ c. search needs)
     returns-6
     returns-7)

@@ -12,18 +12,6 @@ inside c =
     let a = c .before .before .before .before .before .args in
     subst (LastLies (a .s .now)) (sym (c .before .before .before .last-in .ensures) ∙ c .before .start .given .1) (last-in-lies (a .s .now) (a .number) (a .number))
 
-last-in-requires : tie.Need-last-in-requires
-last-in-requires c κs = search needs
-
-enum-told : tie.Need-enum-told
-enum-told c = search needs
-
-enum-told-2 : tie.Need-enum-told-2
-enum-told-2 c = search needs
-
-enum-known-start : tie.Need-enum-known-start
-enum-known-start c = search needs
-
 sub-t : tie.Need-sub-t
 sub-t c = inside c .0
 
@@ -32,12 +20,6 @@ part-t-start c = let h = inside c in omega arith
 
 part-t-end : tie.Need-part-t-end
 part-t-end c = let h = inside c in omega arith
-
-number-in-requires : tie.Need-number-in-requires
-number-in-requires c κs = search needs
-
-number-in-requires-2 : tie.Need-number-in-requires-2
-number-in-requires-2 c κs = search needs
 
 returns : tie.Need-returns
 unfolding timeFrom
@@ -58,15 +40,15 @@ pub time-in-spec : {M : Type 1} → statement M
 time-in-spec =
     tie.close
     (tie.spec
-    last-in-requires
-    enum-told
-    enum-told-2
-    enum-known-start
+    (λ c κs. search needs)
+    (λ c. search needs)
+    (λ c. search needs)
+    (λ c. search needs)
     sub-t
     part-t-start
     part-t-end
-    number-in-requires
-    number-in-requires-2
+    (λ c κs. search needs)
+    (λ c κs. search needs)
     returns
     returns-2
     returns-3)

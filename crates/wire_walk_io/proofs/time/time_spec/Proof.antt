@@ -18,18 +18,6 @@ abbrev μ-loop : tie.MeasureT-loop
 loop-holds : tie.Need-loop-holds Inv-loop μ-loop
 loop-holds c = start _
 
-varint-at-requires : tie.Need-varint-at-requires Inv-loop μ-loop
-varint-at-requires c κs = search needs
-
-enum-known-tag : tie.Need-enum-known-tag Inv-loop μ-loop
-enum-known-tag c = search needs
-
-varint-at-requires-2 : tie.Need-varint-at-requires-2 Inv-loop μ-loop
-varint-at-requires-2 c κs = search needs
-
-enum-known-value : tie.Need-enum-known-value Inv-loop μ-loop
-enum-known-value c = search needs
-
 loop-less : tie.Need-loop-less Inv-loop μ-loop
 loop-less c = let k = c .before .before .before .before .before in
     let a = k .before .before .before in
@@ -48,9 +36,6 @@ loop-again c = let k = c .before .before .before .before .before in
     let w = c .before .before .before in
     second g i _ _ tagged (w .before .if1 .taken) _ _ (sym (w .varint-at2 .ensures) ∙ c .before .value .given .1) .1
 
-enum-told : tie.Need-enum-told Inv-loop μ-loop
-enum-told c = search needs
-
 returns : tie.Need-returns Inv-loop μ-loop
 returns c = let k = c .before .before .before .before in
     let a = k .before .before .before in
@@ -60,9 +45,6 @@ returns c = let k = c .before .before .before .before in
     let w = c .before .before in
     second-past g i _ _ tagged (w .before .if1 .taken) (sym (w .varint-at2 .ensures) ∙ c .enum-told .given .1)
 
-enum-told-2 : tie.Need-enum-told-2 Inv-loop μ-loop
-enum-told-2 c = search needs
-
 returns-2 : tie.Need-returns-2 Inv-loop μ-loop
 returns-2 c = let k = c .before .before .before .before in
     let a = k .before .before .before in
@@ -71,12 +53,6 @@ returns-2 c = let k = c .before .before .before .before in
     let tagged = sym (a .varint-at .ensures) ∙ k .before .tag .given .1 in
     let w = c .before .before in
     second-long g i _ _ tagged (w .before .if1 .taken) (sym (w .varint-at2 .ensures) ∙ c .enum-told2 .given .1)
-
-varint-at-requires-3 : tie.Need-varint-at-requires-3 Inv-loop μ-loop
-varint-at-requires-3 c κs = search needs
-
-enum-known-value-2 : tie.Need-enum-known-value-2 Inv-loop μ-loop
-enum-known-value-2 c = search needs
 
 loop-less-2 : tie.Need-loop-less-2 Inv-loop μ-loop
 loop-less-2 c = let k = c .before .before .before .before .before .before in
@@ -96,9 +72,6 @@ loop-again-2 c = let k = c .before .before .before .before .before .before in
     let w = c .before .before .before in
     nano g i _ _ tagged (w .before .if2 .taken) _ _ (sym (w .varint-at3 .ensures) ∙ c .before .value2 .given .1) .1
 
-enum-told-3 : tie.Need-enum-told-3 Inv-loop μ-loop
-enum-told-3 c = search needs
-
 returns-3 : tie.Need-returns-3 Inv-loop μ-loop
 returns-3 c = let k = c .before .before .before .before .before in
     let a = k .before .before .before in
@@ -108,9 +81,6 @@ returns-3 c = let k = c .before .before .before .before .before in
     let w = c .before .before in
     nano-past g i _ _ tagged (w .before .if2 .taken) (sym (w .varint-at3 .ensures) ∙ c .enum-told3 .given .1)
 
-enum-told-4 : tie.Need-enum-told-4 Inv-loop μ-loop
-enum-told-4 c = search needs
-
 returns-4 : tie.Need-returns-4 Inv-loop μ-loop
 returns-4 c = let k = c .before .before .before .before .before in
     let a = k .before .before .before in
@@ -119,12 +89,6 @@ returns-4 c = let k = c .before .before .before .before .before in
     let tagged = sym (a .varint-at .ensures) ∙ k .before .tag .given .1 in
     let w = c .before .before in
     nano-long g i _ _ tagged (w .before .if2 .taken) (sym (w .varint-at3 .ensures) ∙ c .enum-told4 .given .1)
-
-rest-at-requires : tie.Need-rest-at-requires Inv-loop μ-loop
-rest-at-requires c κs = search needs
-
-enum-known-after : tie.Need-enum-known-after Inv-loop μ-loop
-enum-known-after c = search needs
 
 loop-less-3 : tie.Need-loop-less-3 Inv-loop μ-loop
 loop-less-3 c = let k = c .before .before .before .before .before .before in
@@ -144,9 +108,6 @@ loop-again-3 c = let k = c .before .before .before .before .before .before in
     let w = c .before .before .before in
     rest g i _ _ tagged (w .before .before .if1 .left) (w .before .if2 .left) _ (sym (w .rest-at .ensures) ∙ c .before .after .given .1) .1
 
-enum-known-end : tie.Need-enum-known-end Inv-loop μ-loop
-enum-known-end c = search needs
-
 loop-less-4 : tie.Need-loop-less-4 Inv-loop μ-loop
 loop-less-4 c = let w = c .before .before .before in
     absurd (no-inside _ _ _ _ _ _ _ (sym (w .rest-at .ensures) ∙ c .before .end .given .1))
@@ -154,9 +115,6 @@ loop-less-4 c = let w = c .before .before .before in
 loop-again-4 : tie.Need-loop-again-4 Inv-loop μ-loop
 loop-again-4 c = let w = c .before .before .before in
     absurd (no-inside _ _ _ _ _ _ _ (sym (w .rest-at .ensures) ∙ c .before .end .given .1))
-
-enum-known-refusal : tie.Need-enum-known-refusal Inv-loop μ-loop
-enum-known-refusal c = search needs
 
 returns-5 : tie.Need-returns-5 Inv-loop μ-loop
 returns-5 c = let k = c .before .before .before .before .before .before in
@@ -167,16 +125,10 @@ returns-5 c = let k = c .before .before .before .before .before .before in
     let w = c .before .before .before in
     stop g i _ _ (rest-stops 10 _ _ _ _ (omega arith) tagged _ _ (sym (w .rest-at .ensures) ∙ c .before .refusal .given .1))
 
-enum-told-5 : tie.Need-enum-told-5 Inv-loop μ-loop
-enum-told-5 c = search needs
-
 returns-6 : tie.Need-returns-6 Inv-loop μ-loop
 unfolding tagOf
 returns-6 c = let a = c .before .before in
     stop (a .before .before .loop .inv) (a .before .loop-test .taken) _ _ (no-tag 10 _ _ (omega arith) _ (sym (a .varint-at .ensures) ∙ c .enum-told5 .given .1) refl)
-
-enum-told-6 : tie.Need-enum-told-6 Inv-loop μ-loop
-enum-told-6 c = search needs
 
 returns-7 : tie.Need-returns-7 Inv-loop μ-loop
 unfolding tagOf
@@ -193,35 +145,35 @@ time-spec-spec =
     Inv-loop
     μ-loop
     loop-holds
-    varint-at-requires
-    enum-known-tag
-    varint-at-requires-2
-    enum-known-value
+    (λ c κs. search needs)
+    (λ c. search needs)
+    (λ c κs. search needs)
+    (λ c. search needs)
     loop-less
     loop-again
-    enum-told
+    (λ c. search needs)
     returns
-    enum-told-2
+    (λ c. search needs)
     returns-2
-    varint-at-requires-3
-    enum-known-value-2
+    (λ c κs. search needs)
+    (λ c. search needs)
     loop-less-2
     loop-again-2
-    enum-told-3
+    (λ c. search needs)
     returns-3
-    enum-told-4
+    (λ c. search needs)
     returns-4
-    rest-at-requires
-    enum-known-after
+    (λ c κs. search needs)
+    (λ c. search needs)
     loop-less-3
     loop-again-3
-    enum-known-end
+    (λ c. search needs)
     loop-less-4
     loop-again-4
-    enum-known-refusal
+    (λ c. search needs)
     returns-5
-    enum-told-5
+    (λ c. search needs)
     returns-6
-    enum-told-6
+    (λ c. search needs)
     returns-7
     returns-8)

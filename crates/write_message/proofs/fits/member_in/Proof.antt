@@ -8,12 +8,9 @@ returns : tie.Need-returns
 unfolding memberIn
 returns c = search tests
 
-both-requires : tie.Need-both-requires
-both-requires c κs = search needs
-
 returns-2 : tie.Need-returns-2
 unfolding memberIn
 returns-2 c = search tests
 
 pub member-in-spec : {M : Type 1} → statement M
-member-in-spec = tie.close (tie.spec returns both-requires returns-2)
+member-in-spec = tie.close (tie.spec returns (λ c κs. search needs) returns-2)

@@ -3,12 +3,9 @@ use borrow.Author.Needs.{needs}
 use Rattle.write_message.proofs.fits.sized.Statement.{statement}
 use Rattle.write_message.proofs.fits.sized.Tie as tie
 
-both-requires : tie.Need-both-requires
-both-requires c κs = search needs
-
 returns : tie.Need-returns
 unfolding sized
 returns c = cc
 
 pub sized-spec : {M : Type 1} → statement M
-sized-spec = tie.close (tie.spec both-requires returns)
+sized-spec = tie.close (tie.spec (λ c κs. search needs) returns)

@@ -26,9 +26,6 @@ put-middle-requires c κs = (c .before .before .before .before .before .before .
 put-last-requires : tie.Need-put-last-requires
 put-last-requires c κs = omega (arith, sizes (c .before .before .before .before .before .before .before .before .before .before .before .before .before .before .before .before .before .before .before .before .before .before), c .before .before .before .before .before .before .before .before .before .before .before .before .before .before .before .before .before .before .before .before .before .before .pre .1 .0 .0, c .before .before .before .before .before .before .before .before .before .before .before .before .before .before .before .before .before .before .before .before .before .before .pre .1 .1)
 
-same-length : tie.Need-same-length
-same-length c = search needs
-
 returns : tie.Need-returns
 returns c = let a = c .before .before .before .before .before .before .before .before .before .before .before .before .before .before .before .before .before .before .before .before .before .before .before .before .before .args in put-between (firstPieces (a .p) (a .t1 .now) (a .t2 .now)) (lastPieces (a .p) (a .t4 .now) (a .t5 .now)) (a .p .inner) (middle (a .p .list) (a .joined .now) (a .ends .now) (a .numbers .now) (a .d .now)) (c .before .before .before .before .before .before .before .before .before .before .before .before .before .before .before .before .before .before .before .before .before .before .before .before .before .pre .1 .0 .0) (c .before .before .before .before .before .before .before .before .before .before .before .before .before .before .put-first .ensures) (c .before .before .before .before .before .before .before .before .before .before .put-cover .ensures) (c .before .before .before .before .before .before .put-middle .ensures) (c .before .before .put-last .ensures)
 
@@ -40,5 +37,5 @@ put-form-spec =
     put-cover-requires
     put-middle-requires
     put-last-requires
-    same-length
+    (λ c. search needs)
     returns)

@@ -25,13 +25,10 @@ put-numbers-requires c κs = (omega (arith, sizes (c .before .before .before .be
 put-raw-requires : tie.Need-put-raw-requires
 put-raw-requires c κs = omega (arith, sizes (c .before .before .before .before .before .before .before .before .before .before .before .before .before .before))
 
-same-length : tie.Need-same-length
-same-length c = search needs
-
 returns : tie.Need-returns
 returns c = then (c .before .before .before .before .before .before .before .before .before .before .put-list .ensures) (then (c .before .before .before .before .before .before .put-numbers .ensures) (c .before .before .put-raw .ensures))
 
 pub put-middle-spec : {M : Type 1} → statement M
 put-middle-spec =
     tie.close
-    (tie.spec put-list-requires put-numbers-requires put-raw-requires same-length returns)
+    (tie.spec put-list-requires put-numbers-requires put-raw-requires (λ c. search needs) returns)

@@ -13,12 +13,6 @@ returns : tie.Need-returns
 unfolding roomRefusal
 returns c = search tests
 
-len-front-requires : tie.Need-len-front-requires
-len-front-requires c κs = search needs
-
-add-if2 : tie.Need-add-if2
-add-if2 c = search needs
-
 returns-2 : tie.Need-returns-2
 unfolding roomRefusal
 returns-2 c = let a = c .before .before .before .args in let e = c .before .len-front .ensures .0 (a .n) in let h : a .room < length (front (a .framed) (a .n)) + a .n = omega arith in rw (le-ltb 2097152 (a .n) (c .before .before .if1 .left), lt-ltb (a .room) (length (front (a .framed) (a .n)) + a .n) h)
@@ -28,4 +22,4 @@ unfolding roomRefusal
 returns-3 c = let a = c .before .before .before .args in let e = c .before .len-front .ensures .0 (a .n) in let h : length (front (a .framed) (a .n)) + a .n ≤ a .room = omega arith in rw (le-ltb 2097152 (a .n) (c .before .before .if1 .left), le-ltb (a .room) (length (front (a .framed) (a .n)) + a .n) h)
 
 pub room-refusal-spec : {M : Type 1} → statement M
-room-refusal-spec = tie.close (tie.spec returns len-front-requires add-if2 returns-2 returns-3)
+room-refusal-spec = tie.close (tie.spec returns (λ c κs. search needs) (λ c. search needs) returns-2 returns-3)

@@ -38,20 +38,8 @@ returns-2 c = out-of-range (c .before .if1 .left) (not-true _ (c .if2 .taken))
 len-middle-requires : tie.Need-len-middle-requires
 len-middle-requires c κs = c .before .before .before .before .before .before .before .before .before .before .before .pre .1 (not-false _ (c .if2 .left))
 
-len-form-requires : tie.Need-len-form-requires
-len-form-requires c κs = search needs
-
 cast-around : tie.Need-cast-around
 cast-around c = let h = c .before .before .before .before .before .before .before .before .before .before .before .before .before .pre .0 (not-false _ (c .before .before .if2 .left)) in search needs
-
-len-cover-requires : tie.Need-len-cover-requires
-len-cover-requires c κs = search needs
-
-add-m : tie.Need-add-m
-add-m c = search needs
-
-room-refusal-requires : tie.Need-room-refusal-requires
-room-refusal-requires c κs = search needs
 
 returns-3 : tie.Need-returns-3
 returns-3 c = no-room (c .before .before .before .before .before .before .if1 .left) (not-false _ (c .before .before .before .before .before .if2 .left)) (like-wrapped (c .before .before .before .before .before .before .before .before .before .before .before .before .before .before .before .before .args .member) (whole (c .before .before .before .before .before .before .before .before .before .before .before .before .before .before .before .before)) (c .before .before .before .len-form .ensures .0 _ (c .before .before .before .before .len-middle .ensures .0)) (c .before .before .len-cover .ensures .0)) (c .before .room-refusal .ensures) (c .if3 .taken)
@@ -65,9 +53,6 @@ put-cover-requires c κs = omega (arith, room-fits _ _ _ (c .before .before .bef
 put-form-requires : tie.Need-put-form-requires
 put-form-requires c κs = let h = c .before .before .before .before .before .before .before .before .before .before .before .before .len-form .ensures .0 _ (c .before .before .before .before .before .before .before .before .before .before .before .before .before .len-middle .ensures .0) in let w = room-fits _ _ _ (c .before .before .before .before .before .before .before .before .before .before .room-refusal .ensures) (c .before .before .before .before .before .before .before .before .before .if3 .left) in let i = exact-inside (c .before .before .before .before .before .before .before .before .before .before .before .before .before .before .before .before .before .before .before .before .before .before .before .before .before) h (omega (arith, w .short)) (c .before .before .before .before .before .before .before .before .before .before .before .before .before .len-middle .ensures .0) in let e = exact-whole (c .before .before .before .before .before .before .before .before .before .before .before .before .before .before .before .before .before .before .before .before .before .before .before .before .before) h (omega (arith, w .short)) in (c .before .before .before .before .before .before .before .before .before .before .before .before .before .before .before .before .before .before .before .before .before .before .before .before .before .pre .1 (not-false _ (c .before .before .before .before .before .before .before .before .before .before .before .before .before .before .if2 .left)), ((i, omega (arith, w .short, i, e, middle-least (firstPieces (c .before .before .before .before .before .before .before .before .before .before .before .before .before .before .before .before .before .before .before .before .before .before .before .before .before .args .p) (c .before .before .before .before .before .before .before .before .before .before .before .before .before .before .before .before .before .before .before .before .before .before .before .before .before .args .t1 .now) (c .before .before .before .before .before .before .before .before .before .before .before .before .before .before .before .before .before .before .before .before .before .before .before .before .before .args .t2 .now)) (lastPieces (c .before .before .before .before .before .before .before .before .before .before .before .before .before .before .before .before .before .before .before .before .before .before .before .before .before .args .p) (c .before .before .before .before .before .before .before .before .before .before .before .before .before .before .before .before .before .before .before .before .before .before .before .before .before .args .t4 .now) (c .before .before .before .before .before .before .before .before .before .before .before .before .before .before .before .before .before .before .before .before .before .before .before .before .before .args .t5 .now)) (c .before .before .before .before .before .before .before .before .before .before .before .before .before .before .before .before .before .before .before .before .before .before .before .before .before .args .p .inner) (inside (c .before .before .before .before .before .before .before .before .before .before .before .before .before .before .before .before .before .before .before .before .before .before .before .before .before)))), omega (arith, w .within, e)))
 
-same-length : tie.Need-same-length
-same-length c = search needs
-
 returns-4 : tie.Need-returns-4
 returns-4 c = let h = c .before .before .before .before .before .before .before .before .before .before .before .before .before .before .before .len-form .ensures .0 _ (c .before .before .before .before .before .before .before .before .before .before .before .before .before .before .before .before .len-middle .ensures .0) in let w = room-fits _ _ _ (c .before .before .before .before .before .before .before .before .before .before .before .before .before .room-refusal .ensures) (c .before .before .before .before .before .before .before .before .before .before .before .before .if3 .left) in written (c .before .before .before .before .before .before .before .before .before .before .before .before .before .before .before .before .before .before .if1 .left) (not-false _ (c .before .before .before .before .before .before .before .before .before .before .before .before .before .before .before .before .before .if2 .left)) (like-wrapped (c .before .before .before .before .before .before .before .before .before .before .before .before .before .before .before .before .before .before .before .before .before .before .before .before .before .before .before .before .args .member) (whole (c .before .before .before .before .before .before .before .before .before .before .before .before .before .before .before .before .before .before .before .before .before .before .before .before .before .before .before .before)) h (c .before .before .before .before .before .before .before .before .before .before .before .before .before .before .len-cover .ensures .0)) (c .before .before .before .before .before .before .before .before .before .before .before .before .before .room-refusal .ensures) (c .before .before .before .before .before .before .before .before .before .before .before .before .if3 .left) (c .before .before .before .before .before .before .before .before .before .before .put-front .ensures) (put-wrapped (c .before .before .before .before .before .before .before .before .before .before .before .before .before .before .before .before .before .before .before .before .before .before .before .before .before .before .before .before .args .member) (whole (c .before .before .before .before .before .before .before .before .before .before .before .before .before .before .before .before .before .before .before .before .before .before .before .before .before .before .before .before)) (exact-whole (c .before .before .before .before .before .before .before .before .before .before .before .before .before .before .before .before .before .before .before .before .before .before .before .before .before .before .before .before) h (omega (arith, w .short))) (c .before .before .before .before .before .before .put-cover .ensures) (c .before .before .put-form .ensures))
 
@@ -78,14 +63,14 @@ write-message-spec =
     returns
     returns-2
     len-middle-requires
-    len-form-requires
+    (λ c κs. search needs)
     cast-around
-    len-cover-requires
-    add-m
-    room-refusal-requires
+    (λ c κs. search needs)
+    (λ c. search needs)
+    (λ c κs. search needs)
     returns-3
     put-front-requires
     put-cover-requires
     put-form-requires
-    same-length
+    (λ c. search needs)
     returns-4)

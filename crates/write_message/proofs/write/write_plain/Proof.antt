@@ -5,21 +5,9 @@ use borrow.Author.Needs.{needs}
 use Rattle.write_message.proofs.write.write_plain.Statement.{statement}
 use Rattle.write_message.proofs.write.write_plain.Tie as tie
 
-slice-aggregate-write-message : tie.Need-slice-aggregate-write-message
-slice-aggregate-write-message c = search needs
-
-slice-aggregate-write-message-2 : tie.Need-slice-aggregate-write-message-2
-slice-aggregate-write-message-2 c = search needs
-
-slice-aggregate-write-message-3 : tie.Need-slice-aggregate-write-message-3
-slice-aggregate-write-message-3 c = search needs
-
 write-message-requires : tie.Need-write-message-requires
 unfolding badEnds
 write-message-requires c κs = (c .before .before .before .before .before .before .before .before .before .before .pre, λ h. refl)
-
-same-length : tie.Need-same-length
-same-length c = search needs
 
 returns : tie.Need-returns
 unfolding elements encode packed cutAt
@@ -29,9 +17,9 @@ pub write-plain-spec : {M : Type 1} → statement M
 write-plain-spec =
     tie.close
     (tie.spec
-    slice-aggregate-write-message
-    slice-aggregate-write-message-2
-    slice-aggregate-write-message-3
+    (λ c. search needs)
+    (λ c. search needs)
+    (λ c. search needs)
     write-message-requires
-    same-length
+    (λ c. search needs)
     returns)

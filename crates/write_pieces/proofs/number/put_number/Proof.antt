@@ -5,23 +5,14 @@ use borrow.Author.Needs.{needs}
 use Rattle.write_pieces.proofs.number.put_number.Statement.{statement}
 use Rattle.write_pieces.proofs.number.put_number.Tie as tie
 
-left-out-requires : tie.Need-left-out-requires
-left-out-requires c κs = search needs
-
 returns : tie.Need-returns
 returns c = let a = c .before .before .before .args in rw (number-out (a .f) (a .v) (a .always) (c .before .left-out .ensures) (c .if1 .taken)) (nothing (a .out .now) (a .at) (omega arith))
-
-mul-put-varint : tie.Need-mul-put-varint
-mul-put-varint c = search needs
 
 put-varint-requires : tie.Need-put-varint-requires
 put-varint-requires c κs = let a = c .before .before .before .before .args in omega (arith, length-number (a .f) (a .v) (a .always) (c .before .before .left-out .ensures) (c .before .if1 .left))
 
 put-varint-requires-2 : tie.Need-put-varint-requires-2
 put-varint-requires-2 c κs = let a = c .before .before .before .before .before .before .before .before .args in omega (arith, length-number (a .f) (a .v) (a .always) (c .before .before .before .before .before .before .left-out .ensures) (c .before .before .before .before .before .if1 .left))
-
-same-length : tie.Need-same-length
-same-length c = search needs
 
 returns-2 : tie.Need-returns-2
 returns-2 c = let a = c .before .before .before .before .before .before .before .before .before .before .before .args in rw (number-in (a .f) (a .v) (a .always) (c .before .before .before .before .before .before .before .before .before .left-out .ensures) (c .before .before .before .before .before .before .before .before .if1 .left)) (search puts)
@@ -30,10 +21,10 @@ pub put-number-spec : {M : Type 1} → statement M
 put-number-spec =
     tie.close
     (tie.spec
-    left-out-requires
+    (λ c κs. search needs)
     returns
-    mul-put-varint
+    (λ c. search needs)
     put-varint-requires
     put-varint-requires-2
-    same-length
+    (λ c. search needs)
     returns-2)

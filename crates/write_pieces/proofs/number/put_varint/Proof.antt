@@ -13,17 +13,8 @@ abbrev μ-loop : tie.MeasureT-loop
 loop-holds : tie.Need-loop-holds Inv-loop μ-loop
 loop-holds c = put-start (c .args .out .now) (c .args .at) (c .args .v) (search needs)
 
-add-out : tie.Need-add-out Inv-loop μ-loop
-add-out c = search needs
-
-cast-out : tie.Need-cast-out Inv-loop μ-loop
-cast-out c = search needs
-
 slice-write-out : tie.Need-slice-write-out Inv-loop μ-loop
 slice-write-out c = put-room (c .before .loop .inv) (c .before .before .pre)
-
-add-i : tie.Need-add-i Inv-loop μ-loop
-add-i c = search needs
 
 loop-less : tie.Need-loop-less Inv-loop μ-loop
 loop-less c = omega arith
@@ -31,17 +22,8 @@ loop-less c = omega arith
 loop-again : tie.Need-loop-again Inv-loop μ-loop
 loop-again c = put-more (c .before .loop .inv) (c .before .before .pre) (c .loop-test .taken)
 
-cast-out-2 : tie.Need-cast-out-2 Inv-loop μ-loop
-cast-out-2 c = search needs
-
 slice-write-out-2 : tie.Need-slice-write-out-2 Inv-loop μ-loop
 slice-write-out-2 c = put-room (c .before .loop .inv) (c .before .before .pre)
-
-add-result : tie.Need-add-result Inv-loop μ-loop
-add-result c = search needs
-
-same-length : tie.Need-same-length Inv-loop μ-loop
-same-length c = search needs
 
 returns : tie.Need-returns Inv-loop μ-loop
 returns c = put-end (c .before .loop .inv) (c .before .before .pre) (c .loop-test .left)
@@ -53,14 +35,14 @@ put-varint-spec =
     Inv-loop
     μ-loop
     loop-holds
-    add-out
-    cast-out
+    (λ c. search needs)
+    (λ c. search needs)
     slice-write-out
-    add-i
+    (λ c. search needs)
     loop-less
     loop-again
-    cast-out-2
+    (λ c. search needs)
     slice-write-out-2
-    add-result
-    same-length
+    (λ c. search needs)
+    (λ c. search needs)
     returns)

@@ -6,11 +6,8 @@ use Rattle.write_pieces.proofs.part.len_cover.Tie as tie
 returns : tie.Need-returns
 returns c = rw (cover-none (c .before .args .f) (c .before .args .n) (c .if1 .taken)) (search needs)
 
-len-head-requires : tie.Need-len-head-requires
-len-head-requires c κs = search needs
-
 returns-2 : tie.Need-returns-2
 returns-2 c = rw (cover-some (c .before .before .args .f) (c .before .before .args .n) (c .before .if1 .left)) (search needs)
 
 pub len-cover-spec : {M : Type 1} → statement M
-len-cover-spec = tie.close (tie.spec returns len-head-requires returns-2)
+len-cover-spec = tie.close (tie.spec returns (λ c κs. search needs) returns-2)

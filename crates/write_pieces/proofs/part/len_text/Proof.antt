@@ -13,14 +13,8 @@ returns c = (beyond (omega arith) (omega (arith, text-least (c .before .before .
 returns-2 : tie.Need-returns-2
 returns-2 c = (exact (ap length (sym (text-none (c .before .before .before .args .f) (c .before .before .before .args .d .now) (c .if2 .taken)))), omega arith)
 
-len-head-requires : tie.Need-len-head-requires
-len-head-requires c κs = search needs
-
-add-result : tie.Need-add-result
-add-result c = search needs
-
 returns-3 : tie.Need-returns-3
 returns-3 c = (exact (omega (arith, length-text (c .before .before .before .before .args .f) (c .before .before .before .before .args .d .now) (c .before .if2 .left))), omega arith)
 
 pub len-text-spec : {M : Type 1} → statement M
-len-text-spec = tie.close (tie.spec returns returns-2 len-head-requires add-result returns-3)
+len-text-spec = tie.close (tie.spec returns returns-2 (λ c κs. search needs) (λ c. search needs) returns-3)

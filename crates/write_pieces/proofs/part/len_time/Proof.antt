@@ -8,18 +8,9 @@ use Rattle.write_pieces.proofs.part.len_time.Tie as tie
 returns : tie.Need-returns
 returns c = let a = c .before .args in rw (time-none (a .f) (stamp (a .seconds) (a .nanos)) (c .if1 .taken)) (search needs)
 
-len-stamp-requires : tie.Need-len-stamp-requires
-len-stamp-requires c κs = search needs
-
-len-head-requires : tie.Need-len-head-requires
-len-head-requires c κs = search needs
-
-add-result : tie.Need-add-result
-add-result c = search needs
-
 returns-2 : tie.Need-returns-2
 returns-2 c = let a = c .before .before .before .args in omega (arith, length-time (a .f) (stamp (a .seconds) (a .nanos)) _ (c .before .before .if1 .left) (c .before .len-stamp .ensures .0))
 
 pub len-time-spec : {M : Type 1} → statement M
 len-time-spec =
-    tie.close (tie.spec returns len-stamp-requires len-head-requires add-result returns-2)
+    tie.close (tie.spec returns (λ c κs. search needs) (λ c κs. search needs) (λ c. search needs) returns-2)

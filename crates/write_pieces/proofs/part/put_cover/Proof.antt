@@ -13,11 +13,8 @@ returns c = let a = c .before .before .args in rw (cover-none (a .f) (a .n) (c .
 put-head-requires : tie.Need-put-head-requires
 put-head-requires c κs = omega (arith, ap length (cover-some (c .before .before .before .args .f) (c .before .before .before .args .n) (c .before .if1 .left)))
 
-same-length : tie.Need-same-length
-same-length c = search needs
-
 returns-2 : tie.Need-returns-2
 returns-2 c = rw (cover-some (c .before .before .before .before .before .before .args .f) (c .before .before .before .before .before .before .args .n) (c .before .before .before .before .if1 .left)) (search needs)
 
 pub put-cover-spec : {M : Type 1} → statement M
-put-cover-spec = tie.close (tie.spec returns put-head-requires same-length returns-2)
+put-cover-spec = tie.close (tie.spec returns put-head-requires (λ c. search needs) returns-2)

@@ -6,20 +6,11 @@ use borrow.Author.Needs.{needs}
 use Rattle.write_pieces.proofs.part.put_head.Statement.{statement}
 use Rattle.write_pieces.proofs.part.put_head.Tie as tie
 
-mul-put-varint : tie.Need-mul-put-varint
-mul-put-varint c = search needs
-
-add-put-varint : tie.Need-add-put-varint
-add-put-varint c = search needs
-
 put-varint-requires : tie.Need-put-varint-requires
 put-varint-requires c κs = omega (arith, length-head (c .before .before .args .f) (c .before .before .args .n))
 
 put-varint-requires-2 : tie.Need-put-varint-requires-2
 put-varint-requires-2 c κs = omega (arith, length-head (c .before .before .before .before .before .before .args .f) (c .before .before .before .before .before .before .args .n))
-
-same-length : tie.Need-same-length
-same-length c = search needs
 
 returns : tie.Need-returns
 unfolding head
@@ -29,9 +20,9 @@ pub put-head-spec : {M : Type 1} → statement M
 put-head-spec =
     tie.close
     (tie.spec
-    mul-put-varint
-    add-put-varint
+    (λ c. search needs)
+    (λ c. search needs)
     put-varint-requires
     put-varint-requires-2
-    same-length
+    (λ c. search needs)
     returns)

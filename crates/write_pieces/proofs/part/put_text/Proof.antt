@@ -14,12 +14,9 @@ put-head-requires c κs = omega (arith, length-text (c .before .before .before .
 put-raw-requires : tie.Need-put-raw-requires
 put-raw-requires c κs = omega (arith, length-text (c .before .before .before .before .before .before .before .before .args .f) (c .before .before .before .before .before .before .before .before .args .d .now) (c .before .before .before .before .before .if1 .left))
 
-same-length : tie.Need-same-length
-same-length c = search needs
-
 returns-2 : tie.Need-returns-2
 returns-2 c = rw (text-some (c .before .before .before .before .before .before .before .before .before .before .before .args .f) (c .before .before .before .before .before .before .before .before .before .before .before .args .d .now) (c .before .before .before .before .before .before .before .before .if1 .left)) (search puts)
 
 pub put-text-spec : {M : Type 1} → statement M
 put-text-spec =
-    tie.close (tie.spec returns put-head-requires put-raw-requires same-length returns-2)
+    tie.close (tie.spec returns put-head-requires put-raw-requires (λ c. search needs) returns-2)

@@ -9,9 +9,6 @@ use Rattle.write_pieces.proofs.part.put_time.Tie as tie
 returns : tie.Need-returns
 returns c = let a = c .before .before .args in rw (time-none (a .f) (stamp (a .seconds) (a .nanos)) (c .if1 .taken)) (nothing (a .out .now) (a .at) (omega arith))
 
-len-stamp-requires : tie.Need-len-stamp-requires
-len-stamp-requires c κs = search needs
-
 put-head-requires : tie.Need-put-head-requires
 put-head-requires c κs = let a = c .before .before .before .before .args in omega (arith, length-time (a .f) (stamp (a .seconds) (a .nanos)) _ (c .before .before .if1 .left) (c .len-stamp .ensures .0), length-stamp (stamp (a .seconds) (a .nanos)))
 
@@ -21,9 +18,6 @@ put-number-requires c κs = let a = c .before .before .before .before .before .b
 put-number-requires-2 : tie.Need-put-number-requires-2
 put-number-requires-2 c κs = let a = c .before .before .before .before .before .before .before .before .before .before .before .before .args in omega (arith, length-time (a .f) (stamp (a .seconds) (a .nanos)) _ (c .before .before .before .before .before .before .before .before .before .before .if1 .left) (c .before .before .before .before .before .before .before .before .len-stamp .ensures .0), length-stamp (stamp (a .seconds) (a .nanos)))
 
-same-length : tie.Need-same-length
-same-length c = search needs
-
 returns-2 : tie.Need-returns-2
 returns-2 c = let a = c .before .before .before .before .before .before .before .before .before .before .before .before .before .before .before .args in rw (time-some (a .f) (stamp (a .seconds) (a .nanos)) (c .before .before .before .before .before .before .before .before .before .before .before .before .before .if1 .left), ← c .before .before .before .before .before .before .before .before .before .before .before .len-stamp .ensures .0) (search puts)
 
@@ -32,9 +26,9 @@ put-time-spec =
     tie.close
     (tie.spec
     returns
-    len-stamp-requires
+    (λ c κs. search needs)
     put-head-requires
     put-number-requires
     put-number-requires-2
-    same-length
+    (λ c. search needs)
     returns-2)
