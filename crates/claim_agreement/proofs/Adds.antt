@@ -13,10 +13,10 @@ use Rattle.wire_range.specs.Range.{reportFits, exitFits, ioFits, windowFits, su
 use Rattle.wire.specs.Read.{value, clientMessage, received}
 use Rattle.file_format.specs.Record.{Record}
 use Rattle.file_format.specs.File.{fileBytes}
-use Rattle.session.specs.State.{opening, recording, greeting, ending, alerting, turn}
+use Rattle.session_turn.specs.Turn.{opening, recording, greeting, ending, alerting, turn}
 use Rattle.session.specs.Step.{Outcome, exitRecord, lengthsFit, growthRefusal, roomFor, timed, exitStored, onExit, act, inTurn, onReading, step}
-use Rattle.session.specs.declared.State.{State}
-use Rattle.session.specs.declared.State.the-variants.{Logging}
+use Rattle.session_turn.specs.declared.State.{State}
+use Rattle.session_turn.specs.declared.State.the-variants.{Logging}
 use Rattle.session.specs.declared.Session.{Session}
 use Rattle.session.proofs.Lengths.{within-area, lengths}
 use Rattle.claim_delivery.specs.Recording.{recordOf}

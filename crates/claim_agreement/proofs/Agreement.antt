@@ -7,8 +7,8 @@ use Rattle.wire_message.specs.Message.{Bytes}
 use Rattle.file_format.specs.File.{recordsOf}
 use Rattle.file_format.proofs.Reading.{records-of-file}
 use Rattle.session.specs.Step.{pointIn, tick}
-use Rattle.session.specs.declared.State.{State}
-use Rattle.session.specs.declared.State.the-variants.{New, Greeted, Logging, EventsOnly, Closed}
+use Rattle.session_turn.specs.declared.State.{State}
+use Rattle.session_turn.specs.declared.State.the-variants.{New, Greeted, Logging, EventsOnly, Closed}
 use Rattle.session.specs.declared.Point.{Point}
 use Rattle.session.specs.declared.Point.the-variants as point
 use Rattle.claim_examples.proofs.Session.{examples}

@@ -17,10 +17,10 @@ use Rattle.wire.specs.Read.{Reading, value, refused, clientMessage, received}
 use Rattle.session_entries.specs.Required.{entriesRefusal}
 use Rattle.file_format.specs.Record.{Record}
 use Rattle.file_format.specs.File.{limit, Records, all, none, recordsOf, FileKind, invalid, unfinished, finished, recordsKind, meets}
-use Rattle.session.specs.State.{Turn, to, notNow, turn}
+use Rattle.session_turn.specs.Turn.{Turn, to, notNow, turn}
 use Rattle.session.specs.Step.{Outcome, moment, withinArea, lengthsFit, atMark, growthRefusal, refuse, roomFor, timed, entriesFirst, acceptStored, onAccept, onReject, exitStored, onExit, resumed, byKind, ofRecords, onRestart, act, inTurn, onReading, step, loggingPoint, pointIn, tick}
-use Rattle.session.specs.declared.State.{State}
-use Rattle.session.specs.declared.State.the-variants.{New, Greeted, Logging, EventsOnly, Closed}
+use Rattle.session_turn.specs.declared.State.{State}
+use Rattle.session_turn.specs.declared.State.the-variants.{New, Greeted, Logging, EventsOnly, Closed}
 use Rattle.session.specs.declared.Session.{Session}
 use Rattle.session.specs.declared.Point.{Point}
 use Rattle.session.specs.declared.Point.the-variants as point

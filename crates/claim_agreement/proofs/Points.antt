@@ -16,10 +16,10 @@ use Rattle.file_format.specs.File.{total, lowTotal}
 use Rattle.file_format.proofs.Times.{exit-time}
 use Rattle.file_format.proofs.Appends.{kind-exit, total-snoc}
 use Rattle.file_format.proofs.Beginnings.{low-found, low-above}
-use Rattle.session.specs.State.{ending, turn}
+use Rattle.session_turn.specs.Turn.{ending, turn}
 use Rattle.session.specs.Step.{Outcome, exitRecord, lengthsFit, roomFor, exitStored, onExit, act, inTurn, onReading, step, loggingPoint, pointIn, tick}
-use Rattle.session.specs.declared.State.{State}
-use Rattle.session.specs.declared.State.the-variants.{Logging}
+use Rattle.session_turn.specs.declared.State.{State}
+use Rattle.session_turn.specs.declared.State.the-variants.{Logging}
 use Rattle.session.specs.declared.Mark.{Mark}
 use Rattle.session.specs.declared.Point.the-variants as point
 use Rattle.claim_delivery.proofs.Values.{may-end}

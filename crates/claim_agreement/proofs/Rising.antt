@@ -17,10 +17,10 @@ use Rattle.wire_range.specs.Range.{reportFits, exitFits, ioFits, windowFits, su
 use Rattle.wire.specs.Read.{Reading, value, refused, clientMessage, received}
 use Rattle.file_format.specs.Record.{Record, recordBytes}
 use Rattle.file_format.specs.File.{total}
-use Rattle.session.specs.State.{opening, recording, greeting, ending, alerting, turn}
+use Rattle.session_turn.specs.Turn.{opening, recording, greeting, ending, alerting, turn}
 use Rattle.session.specs.Step.{Outcome, exitRecord, grown, inState, lengthsFit, growthRefusal, roomFor, timed, exitStored, onExit, act, inTurn, onReading, step, loggingPoint, pointIn, tick}
-use Rattle.session.specs.declared.State.{State}
-use Rattle.session.specs.declared.State.the-variants.{New, Greeted, Logging, EventsOnly, Closed}
+use Rattle.session_turn.specs.declared.State.{State}
+use Rattle.session_turn.specs.declared.State.the-variants.{New, Greeted, Logging, EventsOnly, Closed}
 use Rattle.session.specs.declared.Session.{Session}
 use Rattle.session.specs.declared.Mark.the-variants as mark
 use Rattle.session.specs.declared.Point.{Point}

@@ -16,10 +16,10 @@ use Rattle.wire_range.specs.Range.{acceptFits, reportFits, exitFits, restartFit
 use Rattle.wire.specs.Read.{Reading, value, refused, clientMessage, received}
 use Rattle.file_format.specs.Record.{Record, recordBytes}
 use Rattle.file_format.specs.File.{limit, Records, all, none, recordsOf, total, FileKind, invalid, unfinished, finished, recordsKind, meets}
-use Rattle.session.specs.State.{opening, recording, greeting, ending, alerting, turn}
+use Rattle.session_turn.specs.Turn.{opening, recording, greeting, ending, alerting, turn}
 use Rattle.session.specs.Step.{Outcome, moment, acceptRecord, withinArea, lengthsFit, growthRefusal, taken, roomFor, timed, entriesFirst, acceptStored, onAccept, onReject, exitStored, onExit, resumed, byKind, ofRecords, onRestart, act, inTurn, onReading, step}
-use Rattle.session.specs.declared.State.{State}
-use Rattle.session.specs.declared.State.the-variants.{New, Greeted, Logging, EventsOnly, Closed}
+use Rattle.session_turn.specs.declared.State.{State}
+use Rattle.session_turn.specs.declared.State.the-variants.{New, Greeted, Logging, EventsOnly, Closed}
 use Rattle.session.specs.declared.Session.{Session}
 use Rattle.session.proofs.Lengths.{within-area, lengths}
 use Rattle.session.proofs.Timed.{growth-fits}

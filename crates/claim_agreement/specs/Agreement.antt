@@ -16,8 +16,8 @@ use Rattle.file_store.specs.Store.{fitsHeader}
 use Rattle.session.specs.Step as session
 use Rattle.session.specs.Step.{Outcome, exitRecord}
 use Rattle.claim_examples.specs.Session.{accept, ttyout}
-use Rattle.session.specs.declared.State.{State}
-use Rattle.session.specs.declared.State.the-variants.{New, Greeted, Logging, EventsOnly, Closed}
+use Rattle.session_turn.specs.declared.State.{State}
+use Rattle.session_turn.specs.declared.State.the-variants.{New, Greeted, Logging, EventsOnly, Closed}
 use Rattle.session.specs.declared.Mark.{Mark}
 use Rattle.session.specs.declared.Mark.the-variants as mark
 use Rattle.session.specs.declared.Point.the-variants as point

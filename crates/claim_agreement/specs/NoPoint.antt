@@ -5,7 +5,7 @@ use mathlib.Core.Path.{_≡_}
 use Rattle.wire_message.specs.Message.{Bytes, Exit, exitMsg}
 use Rattle.wire.specs.Read.{value, clientMessage}
 use Rattle.session.specs.Step.{step, tick}
-use Rattle.session.specs.declared.State.the-variants.{Logging}
+use Rattle.session_turn.specs.declared.State.the-variants.{Logging}
 use Rattle.session.specs.declared.Session.{Session}
 use Rattle.session.specs.declared.Point.the-variants as point
 

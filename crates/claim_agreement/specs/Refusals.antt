@@ -5,7 +5,7 @@ use mathlib.Core.Path.{_≡_}
 use mathlib.Core.Logic.{_⊎_}
 use Rattle.wire_message.specs.Message.{Bytes}
 use Rattle.session.specs.Step.{Outcome, step}
-use Rattle.session.specs.declared.State.the-variants.{Closed}
+use Rattle.session_turn.specs.declared.State.the-variants.{Closed}
 use Rattle.session.specs.declared.Session.{Session}
 use Rattle.session.specs.declared.Point.the-variants as point
 

@@ -5,7 +5,7 @@ use mathlib.Core.List.{List}
 use mathlib.Core.Option.{some}
 use Rattle.wire_message.specs.Message.{Bytes}
 use Rattle.session.specs.Step.{tick}
-use Rattle.session.specs.declared.State.the-variants.{Logging}
+use Rattle.session_turn.specs.declared.State.the-variants.{Logging}
 use Rattle.session.specs.declared.Point.{Point}
 use Rattle.session.specs.declared.Point.the-variants as point
 use Rattle.claim_agreement.specs.Calls.{Call, Host, answered, afterAll}

@@ -18,8 +18,8 @@ use Rattle.file_format.proofs.Records.{length-record}
 use Rattle.session.specs.Step as session
 use Rattle.session.specs.Step.{acceptRecord, exitRecord, loggingPoint, pointIn}
 use Rattle.session.specs.Answer.{mayOpen}
-use Rattle.session.specs.declared.State.{State}
-use Rattle.session.specs.declared.State.the-variants.{New, Greeted, Logging, EventsOnly, Closed}
+use Rattle.session_turn.specs.declared.State.{State}
+use Rattle.session_turn.specs.declared.State.the-variants.{New, Greeted, Logging, EventsOnly, Closed}
 use Rattle.session.specs.declared.Mark.{Mark}
 use Rattle.session.specs.declared.Mark.the-variants as mark
 use Rattle.session.specs.declared.Point.{Point}

@@ -27,7 +27,7 @@ use Rattle.file_format.specs.Digits.{digits, valueFrom}
 use Rattle.file_format.specs.Record.{packed, headerBytes, recordBytes, exitBytes, isTimed, timedFits, exitDataFits}
 use Rattle.file_format.specs.File as f
 use Rattle.base_laws.specs.Base.{splice}
-use Rattle.session.specs.State as t
+use Rattle.session_turn.specs.Turn as t
 use Rattle.session.specs.Step as s
 use Rattle.claim_delivery.specs.Recording as r
 use Rattle.claim_delivery.specs.Sender as d

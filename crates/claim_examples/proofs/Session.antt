@@ -22,7 +22,7 @@ use Rattle.file_format.specs.Digits.{digits, valueFrom}
 use Rattle.file_format.specs.Record.{packed, headerBytes, recordBytes, exitBytes, isTimed, timedFits}
 use Rattle.file_format.specs.File as f
 use Rattle.base_laws.specs.Base.{splice}
-use Rattle.session.specs.State as t
+use Rattle.session_turn.specs.Turn as t
 use Rattle.session.specs.Step as s
 use Rattle.claim_examples.specs.Session.{Examples}
 

@@ -6,7 +6,7 @@ use lib.ListN.{length}
 use lib.Dec.{leb, eqb}
 use Rattle.base_laws.specs.Base.{pick, splice}
 use Rattle.session.specs.Step.{Outcome}
-use Rattle.session.specs.declared.State.{State}
+use Rattle.session_turn.specs.declared.State.{State}
 use Rattle.session.specs.declared.Point.{Point}
 use Rattle.session.specs.declared.Point.the-variants as point
 use Rattle.replay_text.specs.Words.{text, decimal, nine}

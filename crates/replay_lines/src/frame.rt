@@ -6,7 +6,7 @@ use replay_text::numbers::put_decimal;
 use replay_text::numbers::put_nine;
 use session::Answer;
 use session::Point;
-use session::State;
+use session_turn::State;
 use write_pieces::part::put_raw;
 ghost use mathlib.Core.Path.{_≡_};
 ghost use mathlib.Core.List.{[]};

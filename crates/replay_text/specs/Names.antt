@@ -4,8 +4,8 @@ use mathlib.Core.List.{List}
 use lib.Dec.{eqb}
 use Rattle.base_laws.specs.Base.{pick}
 use Rattle.wire_fields.specs.Fields.{lastIn, memberFrom}
-use Rattle.session.specs.declared.State.{State}
-use Rattle.session.specs.declared.State.the-variants.{New, Greeted, Logging, EventsOnly, Closed}
+use Rattle.session_turn.specs.declared.State.{State}
+use Rattle.session_turn.specs.declared.State.the-variants.{New, Greeted, Logging, EventsOnly, Closed}
 use Rattle.replay_text.specs.Words.{text}
 
 -- the members of sudo_logsrv.proto's ClientMessage, by number

@@ -1,6 +1,6 @@
 // The names in a line: those of a ClientMessage's members and of a session's states. As in `words`, `put_..` requires the room and answers
 // the place after what it put.
-use session::State;
+use session_turn::State;
 use wire_fields::Last;
 use wire_fields::last_in;
 use write_pieces::part::put_raw;

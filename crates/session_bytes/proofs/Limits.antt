@@ -17,13 +17,13 @@ use Rattle.file_format.specs.Record.{Record, recordBytes}
 use Rattle.file_format.specs.File.{limit, Records, all, none, recordsOf, fileBytes, total, lowTotal, FileKind, invalid, unfinished, finished, recordsKind, meets, keep}
 use Rattle.file_format.proofs.Beginnings.{low-found, low-none}
 use Rattle.file_format.proofs.Restarts.{keep-total}
-use Rattle.session.specs.State.{Turn, to, notNow, turn}
+use Rattle.session_turn.specs.Turn.{Turn, to, notNow, turn}
 use Rattle.session.specs.Step.{Outcome, moment, acceptRecord, inState, grown, withinArea, lengthsFit, growthRefusal, refuse, roomFor, timed, entriesFirst, acceptStored, onAccept, onReject, exitStored, onExit, resumed, byKind, ofRecords, onRestart, act, inTurn, onReading, step}
 use Rattle.session.proofs.Moments.{moment-most, point-fits}
 use Rattle.session.proofs.Lengths.{within-area, lengths}
 use Rattle.session.proofs.Timed.{growth-fits}
-use Rattle.session.specs.declared.State.{State}
-use Rattle.session.specs.declared.State.the-variants.{New, Greeted, Logging, EventsOnly, Closed}
+use Rattle.session_turn.specs.declared.State.{State}
+use Rattle.session_turn.specs.declared.State.the-variants.{New, Greeted, Logging, EventsOnly, Closed}
 use Rattle.session.specs.declared.Session.{Session}
 use Rattle.session.specs.declared.Mark.the-variants as mark
 use Rattle.session_bytes.specs.Sound.{MarkSound, Sound}

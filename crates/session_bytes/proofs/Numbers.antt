@@ -14,8 +14,8 @@ use Rattle.base_numbers.specs.Eight.{eights, numberAt}
 use Rattle.base_numbers.proofs.Back.{first-back, second-back, third-back, fourth-back, fifth-back, five-back}
 use Rattle.file_format.specs.File.{limit}
 use Rattle.file_format.proofs.Times.{cases}
-use Rattle.session.specs.declared.State.{State}
-use Rattle.session.specs.declared.State.the-variants.{New, Greeted, Logging, EventsOnly, Closed}
+use Rattle.session_turn.specs.declared.State.{State}
+use Rattle.session_turn.specs.declared.State.the-variants.{New, Greeted, Logging, EventsOnly, Closed}
 use Rattle.session.specs.declared.Mark.{Mark}
 use Rattle.session.specs.declared.Mark.the-variants as mark
 use Rattle.session.specs.declared.Session.{Session}

@@ -9,8 +9,8 @@ use lib.Dec.{leb}
 use borrow.Author.Tests.{le-leb, eq-eqb, ne-eqb}
 use Rattle.base_laws.specs.Base.{pick, splice}
 use Rattle.base_numbers.specs.Eight.{eights, laid, numberAt}
-use Rattle.session.specs.declared.State.{State}
-use Rattle.session.specs.declared.State.the-variants.{New, Greeted, Logging, EventsOnly, Closed}
+use Rattle.session_turn.specs.declared.State.{State}
+use Rattle.session_turn.specs.declared.State.the-variants.{New, Greeted, Logging, EventsOnly, Closed}
 use Rattle.session.specs.declared.Mark.{Mark}
 use Rattle.session.specs.declared.Mark.the-variants as mark
 use Rattle.session.specs.declared.Session.{Session}

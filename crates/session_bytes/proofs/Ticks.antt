@@ -5,8 +5,8 @@ use lib.Dec.{eqb}
 use Rattle.base_laws.proofs.Order.{picked}
 use Rattle.file_format.specs.File.{limit}
 use Rattle.session.specs.Step.{loggingPoint, pointIn, tick}
-use Rattle.session.specs.declared.State.{State}
-use Rattle.session.specs.declared.State.the-variants.{New, Greeted, Logging, EventsOnly, Closed}
+use Rattle.session_turn.specs.declared.State.{State}
+use Rattle.session_turn.specs.declared.State.the-variants.{New, Greeted, Logging, EventsOnly, Closed}
 use Rattle.session.specs.declared.Session.{Session}
 use Rattle.session.specs.declared.Mark.{Mark}
 use Rattle.session.specs.declared.Mark.the-variants as mark

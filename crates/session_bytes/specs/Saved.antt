@@ -10,8 +10,8 @@ use lib.Dec.{leb, eqb}
 use Rattle.base_laws.specs.Base.{pick, both}
 use Rattle.base_numbers.specs.Eight.{eights, numberAt}
 use Rattle.file_format.specs.File.{limit}
-use Rattle.session.specs.declared.State.{State}
-use Rattle.session.specs.declared.State.the-variants.{New, Greeted, Logging, EventsOnly, Closed}
+use Rattle.session_turn.specs.declared.State.{State}
+use Rattle.session_turn.specs.declared.State.the-variants.{New, Greeted, Logging, EventsOnly, Closed}
 use Rattle.session.specs.declared.Mark.{Mark}
 use Rattle.session.specs.declared.Mark.the-variants as mark
 use Rattle.session.specs.declared.Session.{Session}

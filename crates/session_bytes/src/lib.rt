@@ -4,7 +4,7 @@ use base_numbers::number_at;
 use file_format::LIMIT;
 use session::Mark;
 use session::Session;
-use session::State;
+use session_turn::State;
 ghost use mathlib.Core.Path.{_≡_};
 ghost use Prim.Native.Nat.{_-_};
 ghost use lib.ListN.{length};
