@@ -1,19 +1,13 @@
--- What the functions of this crate promise the writers above: bytes put at a place, and lengths.
-use Prim.Native.Nat.{ℕ, _+_, _≤_, _<_}
+-- The pieces that this crate puts, and lengths that stand for those of bytes: what its functions promise the writers above.
+use Prim.Native.Nat.{ℕ, _<_}
 use mathlib.Core.Path.{_≡_}
 use mathlib.Core.List.{List, [], _++_}
 use mathlib.Core.Bool.{Bool, false}
 use lib.ListN.{length}
 use lib.Dec.{eqb}
-use Rattle.base_laws.specs.Base.{pick, splice}
+use Rattle.base_laws.specs.Base.{pick}
 use Rattle.write_forms.specs.Pieces.{Piece, number, some, bytes, run, head}
 use Rattle.write_forms.specs.Draft.{Stamp, time}
-
--- bytes put into a list at a place: the list afterwards, and the place after them
-pub record Put (s : List ℕ) (at : ℕ) (bs : List ℕ) (s' : List ℕ) (at' : ℕ) : Type 0 where
-  pub list : s' ≡ splice s at bs
-  pub next : at' ≡ at + length bs
-  pub fits : at' ≤ length s
 
 -- n stands for the length of bytes: it is that, or both are above the limit of a message. A length that passes the limit
 -- need not be known, and sums of such lengths can't overflow.

@@ -3,7 +3,8 @@ ghost use mathlib.Core.Path.{_≡_};
 ghost use Prim.Native.Nat.{_+_, _≤_};
 ghost use lib.ListN.{length};
 ghost use Rattle.write_forms.specs.Pieces.{varint, encode};
-ghost use Rattle.write_pieces.specs.Put.{Put, numberPiece};
+ghost use Rattle.base_copy.specs.Put.{Put};
+ghost use Rattle.write_pieces.specs.Parts.{numberPiece};
 
 pub fn len_varint(v: u64) -> usize
     ensures { λ r. ⌜ (r ≡ length (varint v)) × (r ≤ 10) ⌝ }

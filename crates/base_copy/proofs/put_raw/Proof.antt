@@ -1,7 +1,7 @@
 use borrow.Author.Needs.{needs}
-use Rattle.write_pieces.proofs.Puts.{put-copy}
-use Rattle.write_pieces.proofs.part.put_raw.Statement.{statement}
-use Rattle.write_pieces.proofs.part.put_raw.Tie as tie
+use Rattle.base_copy.proofs.Puts.{put-copy}
+use Rattle.base_copy.proofs.put_raw.Statement.{statement}
+use Rattle.base_copy.proofs.put_raw.Tie as tie
 
 returns : tie.Need-returns
 returns c = put-copy (search needs) (c .before .before .copy-into .ensures .1)
