@@ -35,7 +35,7 @@ pub fn put_varint(out: &mut [u8], at: usize, v: u64) -> usize
 
 // Is a number left out: where it is 0 and not always written.
 fn left_out(v: u64, always: bool) -> bool
-    ensures { λ r. ⌜ r ≡ Rattle.write_pieces.specs.Put.leftOut v always ⌝ }
+    ensures { λ r. ⌜ r ≡ Rattle.write_pieces.specs.Parts.leftOut v always ⌝ }
 {
     if always {
         return false;
