@@ -13,7 +13,7 @@
  * The second part is written over the first, in C: a struct for each message of sudo_logsrv.proto and
  * a reader that fills it, and what a C program needs beside the writers.
  *
- * Refusals are document 01's numbers (README.md has the table): 1 frame or message too long, 2 varint,
+ * Refusals are document 01's numbers (docs/FORMAT.md has the table): 1 frame or message too long, 2 varint,
  * 3 length past the end, 4 bad tag or wire type, 5 known field with another wire type, 6 no member, 7 out
  * of range, 8 required entry missing, 9 not this state's turn, 10 total too great, 11 delay zero at a restart
  * point, 12 no room in the buffer or area that was lent, 13 restart of a finished file, 14 no beginning has

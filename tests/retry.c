@@ -519,7 +519,7 @@ static void test_customers_retry(const struct recording *r, const struct file *w
     receive(&new_line, client.line + client.greeting, client.lined_up - client.greeting);
     arrive_all(&client, &new_line);
     show("stored at the end:           ", clients_file());
-    show_point("told at the end:             ", client.point);
+    show_point("sent at the end:             ", client.point);
     CHECK(client.point == 4 * (uint64_t)SECOND);
     check_files(whole);
 }
