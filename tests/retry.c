@@ -438,7 +438,7 @@ static bool ends_with_error(const struct connection *c, int refusal)
     return c->answered >= n && memcmp(c->answers + c->answered - n, note, n) == 0;
 }
 
-/* Are these the bytes of a client that is refused, told so and hung up. */
+/* Are these the bytes of a client that is refused, gets the reason and is hung up. */
 static bool is_refused(const uint8_t *bytes, size_t n, int refusal)
 {
     open_connection(&new_line, &host);
