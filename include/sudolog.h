@@ -13,7 +13,7 @@
  * The second part is written over the first, in C: a struct for each message of sudo_logsrv.proto and
  * a reader that fills it, and what a C program needs beside the writers.
  *
- * Refusals are document 01's numbers (README.md has the table): 1 frame or message too long, 2 varint,
+ * Refusals are document 01's numbers (docs/FORMAT.md has the table): 1 frame or message too long, 2 varint,
  * 3 length past the end, 4 bad tag or wire type, 5 known field with another wire type, 6 no member, 7 out
  * of range, 8 required entry missing, 9 not this state's turn, 10 total too great, 11 delay zero at a restart
  * point, 12 no room in the buffer or area that was lent, 13 restart of a finished file, 14 no beginning has
@@ -50,14 +50,14 @@ enum sudolog_message {
     SUDOLOG_SERVER_HELLO = 15
 };
 
-/* What stands at the start of a stream: answers of sudolog_frame_state. */
+/* What stands at the start of a stream: what sudolog_frame_state returns. */
 enum sudolog_frame {
     SUDOLOG_FRAME_WHOLE = 0,   /* four bytes of length, then the whole message */
     SUDOLOG_FRAME_REFUSED = 1, /* refusal 1: the length is above 2,097,152 */
-    SUDOLOG_FRAME_WAIT = 2     /* too few bytes to tell yet */
+    SUDOLOG_FRAME_WAIT = 2     /* too few bytes to decide yet */
 };
 
-/* What the used bytes of an area are: answers of sudolog_check_file. */
+/* What the used bytes of an area are: what sudolog_check_file returns. */
 enum sudolog_file {
     SUDOLOG_FILE_UNFINISHED = 0, /* a valid file without an exit */
     SUDOLOG_FILE_FINISHED = 1,   /* a valid file with its exit */
@@ -88,15 +88,15 @@ uint64_t sudolog_member(uint8_t message, const uint8_t *s, size_t n);
  * 32 of them; a bool is true for all but 0. */
 uint64_t sudolog_number(uint64_t field, const uint8_t *s, size_t n);
 
-/* Where the last string, bytes or embedded message given for a field lies in s; 0 and 0 where it is
+/* Where the last string, bytes or embedded message given for a field is in s; 0 and 0 where it is
  * absent, which reads as empty. Where a field may be given as a number and as bytes (field 1 of a
  * NumberList, and a field that the message does not know), the last one given decides, and the other
- * call answers as where it is absent. */
+ * call returns what it does for an absent one. */
 uint64_t sudolog_offset(uint64_t field, const uint8_t *s, size_t n);
 uint64_t sudolog_length(uint64_t field, const uint8_t *s, size_t n);
 
 /* Lists of strings and of messages, one element after the other: where the first one given for a field
- * at or after the place `at` lies; UINT64_MAX (and length 0) where there is none. Begin with at 0; the
+ * at or after the place `at` is; UINT64_MAX (and length 0) where there is none. Begin with at 0; the
  * next place is offset + length. */
 uint64_t sudolog_next_offset(uint64_t field, const uint8_t *s, size_t n, size_t at);
 uint64_t sudolog_next_length(uint64_t field, const uint8_t *s, size_t n, size_t at);
@@ -116,7 +116,7 @@ uint8_t sudolog_client(const uint8_t *s, size_t n, uint8_t *out, size_t room);
 /* ---- writing ----
  *
  * Each function writes one message into `out`, from its start, in the one form that document 01 gives it, and
- * answers a number: its low 32 bits are how many bytes were written, the bits above them a refusal's number, 0
+ * returns a number: its low 32 bits are how many bytes were written, the bits above them a refusal's number, 0
  * for none. Refusals come in this order: 2 to 5 and 7 of the run of entries that was lent; 7 for a value outside
  * its range; 1 for a message above 2,097,152 bytes; 12 where the message and its frame have no room. A refusal
  * writes nothing.
@@ -178,7 +178,7 @@ uint64_t sudolog_write_entry_numbers(uint64_t member, const uint8_t *key, size_t
  *   24  the greatest total below it that a beginning of the file has, in nanoseconds
  *   32  the point of the restart in nanoseconds; 0 where none stands
  *
- * Bytes that are no session (another length than 40, a state that is none, a number beyond its limit) answer
+ * Bytes that are no session (another length than 40, a state that is none, a number beyond its limit) count
  * as a closed session. The area is the bytes lent for the session's file, `used` how many of them the file has.
  * The slices of one call must not overlap. */
 
@@ -243,7 +243,7 @@ uint8_t sudolog_check_file(const uint8_t *area, size_t area_n, size_t used);
  */
 
 /* The bytes m[offset] to m[offset + length - 1] of the slice m that was handed in. What is absent has
- * length 0, as what is there and empty: the protocol does not tell the two apart. */
+ * length 0, as what is there and empty: the protocol makes no difference between the two. */
 struct sudolog_span {
     size_t offset;
     size_t length;
@@ -275,7 +275,7 @@ struct sudolog_number_list {
     const uint8_t *m;
     size_t n;
     size_t at;  /* where the next number is looked for */
-    size_t end; /* where the packed part that `at` lies in ends */
+    size_t end; /* where the packed part that `at` is in ends */
 };
 
 /* What an entry's value is: the field number in InfoMessage. */
@@ -801,7 +801,7 @@ struct sudolog_session {
     uint8_t bytes[40];
 };
 
-/* What sudolog_take_message answers beside the refusal. */
+/* What sudolog_take_message returns beside the refusal. */
 struct sudolog_answer {
     int refusal;               /* 0 for none */
     int key;                   /* of refusal 8: 0 command, 1 runuser, 2 submithost, 3 submituser */
@@ -827,7 +827,7 @@ static inline struct sudolog_session sudolog_new_session(void)
     return session;
 }
 
-/* The 40 bytes that sudolog_session_message answers with, as a struct. */
+/* The 40 bytes that sudolog_session_message writes, as a struct. */
 static inline void sudolog_get_answer(int refusal, const uint8_t *out, struct sudolog_answer *answer)
 {
     answer->refusal = refusal;

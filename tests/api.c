@@ -857,7 +857,7 @@ static void writes_empty_lists_in_entries(void)
     WRITES("\x1A\x05\x0A\x01k\x2A\x00", sudolog_write_entry_numbers(3, TEXT("k"), NO_NUMBERS, 0, WIDE));
 }
 
-/* Any number but 0 is true, also in the flag that asks for a frame. */
+/* Any number but 0 is true, also in the flag that puts a frame around it. */
 static void flags_are_all_but_zero(void)
 {
     WRITES("\x00\x00\x00\x06\x0A\x04\x0A\x00\x18\x01", sudolog_write_accept(1, 0, 0, NONE, 2, 0x80, WIDE));

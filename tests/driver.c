@@ -1,5 +1,5 @@
 /*
- * driver.c: include/sudolog.h, asked and answered in lines, so that tests in other languages reach the
+ * driver.c: include/sudolog.h, called by lines, its results as lines, so that tests in other languages reach the
  * library through C.
  *
  * A request is a line of words, the bytes in hex; its answer is a line of JSON in the shape of the
@@ -14,7 +14,7 @@
  *                     sudolog_write_NAME, its arguments in the header's order: a slice is one word of hex, a
  *                     number is decimal and may have a sign, a list is numbers with a comma between two;
  *                     the empty slice and the empty list are the empty word. Answered by {"written":HEX};
- *                     it is asked twice, over different bytes, and "touched":true is added where a byte
+ *                     it is called twice, over different bytes, and "touched":true is added where a byte
  *                     beyond those written was changed, "differs":true where the two answers do.
  *
  * driver_sessions.c has the requests about areas, sessions and files.
@@ -563,11 +563,11 @@ static void free_given(struct given *g)
 /* Bytes before and behind the room, in which nothing may be written either. */
 enum { FENCE = 32 };
 
-/* What one call answered, and the buffer that it was lent, fences included. */
+/* What one call returned, and the buffer that it was lent, fences included. */
 struct outcome {
     uint64_t written;
     uint8_t *buffer;
-    bool touched; /* a byte was changed beyond the size that it answered */
+    bool touched; /* a byte was changed beyond the size that it returned */
 };
 
 static bool is_filled(const uint8_t *m, size_t n, uint8_t fill)

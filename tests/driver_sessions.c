@@ -26,7 +26,7 @@ enum { AREAS = 64, SESSIONS = 1024 };
 
 static struct bytes areas[AREAS];
 static struct {
-    uint8_t bytes[64]; /* a session's slice may be asked with another length than its own */
+    uint8_t bytes[64]; /* a session's slice may be lent with another length than its own */
     size_t n;
 } sessions[SESSIONS];
 
@@ -141,7 +141,7 @@ static void answer_message_in(char *words)
     } else {
         printf("{\"refused\":%d,\"key\":null", answer.refusal);
     }
-    /* nothing may be told beside what the answer's kind has */
+    /* nothing may be returned beside what the answer's kind has */
     if ((answer.refusal != 8 && answer.key != 0) || (answer.refusal != 0 && answer.has_point)
         || (!answer.has_point && (answer.point.seconds != 0 || answer.point.nanoseconds != 0)))
         printf(",\"stray\":true");

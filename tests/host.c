@@ -65,7 +65,7 @@ static void send_note(struct connection *c, enum sudolog_from_server member, con
                                  sizeof c->answers - c->answered));
 }
 
-/* The client forgets what lies before a commit point: a host with a disk has written it there before it sends one. */
+/* The client forgets what comes before a commit point: a host with a disk has written it there before it sends one. */
 static void send_point(struct connection *c, struct sudolog_time point)
 {
     answer(c, sudolog_write_time(SUDOLOG_FROM_SERVER_COMMIT_POINT, (uint64_t)point.seconds, (uint64_t)point.nanoseconds,
@@ -111,7 +111,7 @@ struct file *file_of(struct host *host, const uint8_t *log_id, size_t n)
     return NULL;
 }
 
-/* The file that a message asks for: an accept with I/O a fresh one, a restart its own; NULL for every other. */
+/* The file that a message needs: an accept with I/O a fresh one, a restart its own; NULL for every other. */
 static struct file *file_for(struct host *host, const uint8_t *m, size_t n)
 {
     struct sudolog_client_message message;

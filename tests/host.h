@@ -42,7 +42,7 @@ struct connection {
 
 enum { TOO_LONG = 1, FINISHED = 13, REFUSALS = 16 };
 
-/* What the client is told, by the refusal's number. */
+/* What is sent to the client, by the refusal's number. */
 extern const char *const reasons[REFUSALS];
 
 /* No file is begun. */

@@ -1,4 +1,4 @@
-"""The library as the test scripts reach it: tests/driver.c and driver_sessions.c, built and asked line by line."""
+"""The library as the test scripts reach it: tests/driver.c and driver_sessions.c, built and called line by line."""
 
 import json
 import os
@@ -24,7 +24,7 @@ def archive():
 
 def build():
     """Makes the driver where it is missing or older than what it is made of. For an archive named by
-    SUDOLOG_LIB it is made each time: the driver does not tell which archive is in it."""
+    SUDOLOG_LIB it is made each time: the driver does not show which archive is in it."""
     lib, usual = archive()
     if not os.path.exists(lib):
         sys.exit(f"no library at {lib}: run ./build first, or set SUDOLOG_LIB")

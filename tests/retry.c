@@ -438,7 +438,7 @@ static bool ends_with_error(const struct connection *c, int refusal)
     return c->answered >= n && memcmp(c->answers + c->answered - n, note, n) == 0;
 }
 
-/* Are these the bytes of a client that is refused, told so and hung up. */
+/* Are these the bytes of a client that is refused, gets the reason and is hung up. */
 static bool is_refused(const uint8_t *bytes, size_t n, int refusal)
 {
     open_connection(&new_line, &host);
@@ -519,7 +519,7 @@ static void test_customers_retry(const struct recording *r, const struct file *w
     receive(&new_line, client.line + client.greeting, client.lined_up - client.greeting);
     arrive_all(&client, &new_line);
     show("stored at the end:           ", clients_file());
-    show_point("told at the end:             ", client.point);
+    show_point("sent at the end:             ", client.point);
     CHECK(client.point == 4 * (uint64_t)SECOND);
     check_files(whole);
 }

@@ -1,6 +1,6 @@
 """The scope document's wire rules and ranges, read a second time: a walk in Python that knows nothing of
-the library under test. It tells the refusal, and where the stock library is known to read otherwise it
-tells the difference by name and takes it out of the bytes, so that both can be asked again.
+the library under test. It gives the refusal, and where the stock library is known to read otherwise it
+gives the difference by name and takes it out of the bytes, so that both can read them again.
 """
 
 from google.protobuf.descriptor import FieldDescriptor

@@ -147,7 +147,7 @@ static void test_examples(void)
     CHECK(leave(&h) == 0 && has_point(&h, 0));
 }
 
-/* The layout that the header tells. */
+/* The layout that the header gives. */
 static void test_layout(void)
 {
     struct host h = opened();
@@ -164,7 +164,7 @@ static void test_layout(void)
     CHECK(sudolog_big_endian(b + 32) == 1000000000);
 }
 
-/* A host whose session's byte is changed answers as a closed one. */
+/* A session with a changed byte counts as a closed one. */
 static void test_no_session(size_t at, uint8_t byte)
 {
     struct host h = four_records(), before;
@@ -311,7 +311,7 @@ static void test_restart_point_before_room(void)
     }
 }
 
-/* A file of two I/O records of 2 MiB whose data lie in pages that can't be read: restart and check look at
+/* A file of two I/O records of 2 MiB whose data is in pages that can't be read: restart and check look at
  * headers alone. */
 static void test_headers_alone(void)
 {

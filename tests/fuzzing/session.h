@@ -131,7 +131,7 @@ static void keep_book(const struct outcome *o, const uint8_t *area)
         host.records = f.records;
         tally.restarts++;
         if (host.has_point && host.point > o->session.total)
-            host.point = o->session.total; /* the client asked for what lies behind it */
+            host.point = o->session.total; /* the client resumed behind it */
     } else if (o->record_n > 0) {
         host.records = o->member == SUDOLOG_FROM_CLIENT_ACCEPT ? 1 : host.records + 1;
     }
@@ -167,7 +167,7 @@ static void hand(size_t session_n, size_t area_n, size_t used, size_t room)
     if (session_n == 40)
         hand_struct(&o, area_n, used);
     count_outcome(&o, before);
-    if (o.record_n > 0) /* the used length may lie anywhere where nothing is stored */
+    if (o.record_n > 0) /* the used length may be anything where nothing is stored */
         memcpy(host.area + used, o.record, o.record_n);
     if (session_n == 40)
         put_saved(&o.session, host.session);
