@@ -1,5 +1,5 @@
 /*
- * session.h: the session, ticks, restarts and file checks, for tests/fuzz.c: a host that does its duties, or does not, over
+ * session.h: the session, ticks, restarts and file checks, for fuzz.c: a host that does its duties, or does not, over
  * messages of any kind. Every answer and every byte is compared with model.h.
  */
 #ifndef SESSION_H

@@ -1,5 +1,5 @@
 /*
- * writing.h: the writers, for tests/fuzz.c: the refusal that the values ask for, what is written and what is not, with all
+ * writing.h: the writers, for fuzz.c: the refusal that the values ask for, what is written and what is not, with all
  * the room that is needed and with a byte less, and that it reads back. Then messages that are none, and damage.
  */
 #ifndef WRITING_H
