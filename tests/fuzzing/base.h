@@ -1,5 +1,5 @@
 /*
- * base.h: what all parts of tests/fuzz.c use: counts, what libFuzzer gets, the faults, the grounds that slices are
+ * base.h: what all parts of tests/fuzzing/fuzz.c use: counts, what libFuzzer gets, the faults, the grounds that slices are
  * lent from, the program that an input is, and the host's memory.
  */
 #ifndef BASE_H

@@ -1,5 +1,5 @@
 /*
- * lent.h: memory as tests/fuzz.c lends it to the library.
+ * lent.h: memory as fuzz.c lends it to the library.
  *
  * A ground is whole pages between two pages that can't be touched. A slice is at one end of it, so that a byte read
  * or written too far at that end faults at once; on the other side stands a margin of known bytes, which is looked at

@@ -1,5 +1,5 @@
 /*
- * reading.h: the reading calls and the cutting of frames, for tests/fuzz.c. A message's bytes are read as any message; the
+ * reading.h: the reading calls and the cutting of frames, for fuzz.c. A message's bytes are read as any message; the
  * header's promises are checked, and that both places at which they are lent give the same answers.
  */
 #ifndef READING_H

@@ -54,14 +54,14 @@ static void answer(struct connection *c, uint64_t written)
 /* `subcommands` stays false: a session takes no second accept. */
 static void send_hello(struct connection *c)
 {
-    answer(c, sudolog_write_server_hello(SUDOLOG_FROM_SERVER_HELLO, sudolog_text("host.c"), 6, sudolog_text(""), 0,
-                                         sudolog_text(""), 0, sudolog_lend_ends(NULL), 0, false, true,
+    answer(c, sudolog_write_server_hello(SUDOLOG_FROM_SERVER_HELLO, SUDOLOG_LEND_STRING("host.c"), SUDOLOG_LEND_STRING(NULL),
+                                         SUDOLOG_LEND_STRING(NULL), SUDOLOG_LEND_ENDS(NULL, 0), false, true,
                                          c->answers + c->answered, sizeof c->answers - c->answered));
 }
 
 static void send_note(struct connection *c, enum sudolog_from_server member, const char *text)
 {
-    answer(c, sudolog_write_note(member, sudolog_text(text), strlen(text), true, c->answers + c->answered,
+    answer(c, sudolog_write_note(member, SUDOLOG_LEND_STRING(text), true, c->answers + c->answered,
                                  sizeof c->answers - c->answered));
 }
 

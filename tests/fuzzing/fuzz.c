@@ -3,21 +3,21 @@
  *
  * An input is a small program. Its bytes choose messages and values, damage what was written, and choose calls: reading,
  * writing, cutting frames, and a host with a session and an area whose messages, lengths, session bytes and file may
- * all be wrong. Every call is made over memory between pages that can't be touched (fuzzing/lent.h). What sessions, ticks
- * and file checks answer is compared with fuzzing/model.h, all of it: refusal, answer, session and every byte of the area.
+ * all be wrong. Every call is made over memory between pages that can't be touched (lent.h). What sessions, ticks
+ * and file checks answer is compared with model.h, all of it: refusal, answer, session and every byte of the area.
  * Of the readers and writers the header's promises are checked.
  *
  * What guides libFuzzer: the branches of this program and of the model, the answers that are handed to saw(), and the blocks
- * of the library's own code that an input reaches first (fuzzing/base.h). The library is not instrumented: AddressSanitizer
+ * of the library's own code that an input reaches first (base.h). The library is not instrumented: AddressSanitizer
  * and UndefinedBehaviorSanitizer watch this program and the header's second part; the pages watch the library.
  *
  * A failed property prints a line and ends the program; libFuzzer keeps the input. With --fault=NAME the calls answer
  * wrongly, each in a way that has to be found.
  */
 #define _GNU_SOURCE
-#include "fuzzing/reading.h"
-#include "fuzzing/session.h"
-#include "fuzzing/writing.h"
+#include "reading.h"
+#include "session.h"
+#include "writing.h"
 
 static bool all_asked;
 

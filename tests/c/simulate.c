@@ -75,8 +75,8 @@ static void add_accept(struct recording *r)
     for (i = 0; i < 4; i++) {
         for (j = 0; j < sizeof value; j++)
             value[j] = (uint8_t)('a' + below(26));
-        if (sudolog_add_written(sudolog_write_entry_string(SUDOLOG_ENTRY_OF_ACCEPT, sudolog_text(keys[i]),
-                                                           strlen(keys[i]), value, below(sizeof value), 0, run + run_n,
+        if (sudolog_add_written(sudolog_write_entry_string(SUDOLOG_ENTRY_OF_ACCEPT, SUDOLOG_LEND_STRING(keys[i]),
+                                                           value, below(sizeof value), 0, run + run_n,
                                                            sizeof run - run_n),
                                 &run_n)
             != 0)
@@ -107,7 +107,7 @@ static void add_timed(struct recording *r)
         n = 4;
     } else if (kind == 12) {
         n = 1 + below(6);
-        wrote(r, sudolog_write_suspend(kind, seconds, nanos, sudolog_text("TSTP12"), n, 0, m, FRAME));
+        wrote(r, sudolog_write_suspend(kind, seconds, nanos, SUDOLOG_LEND_TEXT("TSTP12", n), 0, m, FRAME));
         memcpy(bytes, "TSTP12", n);
     } else {
         wrote(r, sudolog_write_io(kind, seconds, nanos, bytes, n, 0, m, FRAME));
@@ -121,8 +121,9 @@ static void add_exit(struct recording *r)
     uint64_t seconds = below(100), nanos = below(1000000000), value = below(256), core = below(2);
     uint8_t bytes[16];
     size_t signal = below(4), error = below(6);
-    wrote(r, sudolog_write_exit(SUDOLOG_FROM_CLIENT_EXIT, seconds, nanos, value, (uint8_t)core, sudolog_text("HUP"), signal,
-                                sudolog_text("wrong"), error, 0, r->message[r->n], FRAME));
+    wrote(r, sudolog_write_exit(SUDOLOG_FROM_CLIENT_EXIT, seconds, nanos, value, (uint8_t)core,
+                                SUDOLOG_LEND_TEXT("HUP", signal), SUDOLOG_LEND_TEXT("wrong", error), 0, r->message[r->n],
+                                FRAME));
     bytes[0] = (uint8_t)value;
     bytes[1] = (uint8_t)(core << 7 | signal);
     memcpy(bytes + 2, "HUP", signal);
@@ -204,7 +205,7 @@ static void line_up(struct world *w, const uint8_t *m, size_t n)
 static void line_up_restart(struct world *w)
 {
     uint8_t m[64];
-    uint64_t written = sudolog_write_restart(SUDOLOG_FROM_CLIENT_RESTART, sudolog_text("log"), 3,
+    uint64_t written = sudolog_write_restart(SUDOLOG_FROM_CLIENT_RESTART, SUDOLOG_LEND_STRING("log"),
                                              w->latest / 1000000000, w->latest % 1000000000, 0, m, sizeof m);
     line_up(w, m, sudolog_written_size(written));
 }

@@ -3,7 +3,7 @@ field present in the stock message, since document 01 writes it always. What is 
 libraries. No difference is known; every one is a failure.
 
 The stock library has nothing like a run of entries that is lent as bytes: what becomes of damaged ones, and of
-ones in longer forms, is compared with tests/scope.py's walk.
+ones in longer forms, is compared with tests/py/scope.py's walk.
 """
 
 import collections

@@ -1,4 +1,4 @@
-"""The stock Protocol Buffers library: Debian's python3-protobuf, over tests/sudo_logsrv.proto."""
+"""The stock Protocol Buffers library: Debian's python3-protobuf, over tests/data/sudo_logsrv.proto."""
 
 import os
 import subprocess
@@ -17,7 +17,7 @@ def described():
     """sudo_logsrv.proto as protoc understands it."""
     made = os.path.join(ROOT, "target", "tests", "sudo_logsrv.pb")
     os.makedirs(os.path.dirname(made), exist_ok=True)
-    folder = os.path.join(ROOT, "tests")
+    folder = os.path.join(ROOT, "tests", "data")
     subprocess.run(["protoc", "-I", folder, f"--descriptor_set_out={made}", "sudo_logsrv.proto"], check=True)
     with open(made, "rb") as file:
         return descriptor_pb2.FileDescriptorSet.FromString(file.read()).file[0]

@@ -446,9 +446,9 @@ struct given {
 #define PLACE g->framed, g->out, g->room
 #define NUMBER(I) g->number[I]
 #define FLAG(I) (uint8_t)g->number[I]
-#define SLICE(I) sudolog_lend(g->slice[I].m), g->slice[I].n
-#define ENDS sudolog_lend_ends(g->list.ends), g->list.n
-#define NUMBERS sudolog_lend_numbers(g->list.numbers), g->list.n
+#define SLICE(I) SUDOLOG_LEND(g->slice[I].m, g->slice[I].n)
+#define ENDS SUDOLOG_LEND_ENDS(g->list.ends, g->list.n)
+#define NUMBERS SUDOLOG_LEND_NUMBERS(g->list.numbers, g->list.n)
 #define WRITER(NAME, ...)                                                                                   \
     static uint64_t write_##NAME(const struct given *g)                                                     \
     {                                                                                                       \

@@ -1,14 +1,14 @@
-"""The library as the test scripts reach it: tests/driver.c and driver_sessions.c, built and called line by line."""
+"""The library as the test scripts reach it: tests/c/driver.c and driver_sessions.c, built and called line by line."""
 
 import json
 import os
 import subprocess
 import sys
 
-ROOT = os.path.dirname(os.path.dirname(os.path.abspath(__file__)))
+ROOT = os.path.dirname(os.path.dirname(os.path.dirname(os.path.abspath(__file__))))
 DRIVER = os.path.join(ROOT, "target", "tests", "driver")
-SOURCES = [os.path.join(ROOT, "tests", name) for name in ("driver.c", "driver_sessions.c")]
-HEADERS = [os.path.join(ROOT, "tests", "driver.h"), os.path.join(ROOT, "include", "sudolog.h")]
+SOURCES = [os.path.join(ROOT, "tests", "c", name) for name in ("driver.c", "driver_sessions.c")]
+HEADERS = [os.path.join(ROOT, "tests", "c", "driver.h"), os.path.join(ROOT, "include", "sudolog.h")]
 MADE = os.path.join(ROOT, "target", "staticlib", "libsudolog.a")
 
 HELP = """The library is target/staticlib/libsudolog.a (./build), or the archive

@@ -3,7 +3,7 @@
  * 'N passed, M failed'; exit status 1 on a failure.
  *
  * In the order of the header's parts: frames, the marked examples of the scope document, each message's
- * reader, lists, refusals and what they leave untouched; then the same of writing.
+ * reader, lists, NULL in the place of a slice, refusals and what they leave untouched; then the same of writing.
  */
 #include "check.h"
 #include "sudolog.h"
@@ -66,6 +66,9 @@ static bool is_time(struct sudolog_time moment, int64_t seconds, int32_t nanosec
         CHECK(sudolog_decode_##NAME(ranged_in.m, ranged_in.n, &taken) == 0);                                \
         REFUSED(read_##NAME, NAME, ranged_in, 7);                                                           \
     } while (0)
+
+/* What is given with NULL as its length. */
+static const size_t lengths[] = { 0, 1, 2, 4, 4096, SIZE_MAX };
 
 /* ---- frames ---- */
 
@@ -451,13 +454,18 @@ static void numbers_above_the_messages(void)
     CHECK(sudolog_decode(17, unknown, 3) == 0 && sudolog_decode(255, unknown, 3) == 0 && sudolog_decode(255, cut, 2) == 3);
 }
 
-/* ---- absent fields ---- */
+/* ---- absent fields ----
+ *
+ * (m, n) is an empty message: an empty slice, or NULL with any length. It is decoded, or its getter is called alone. */
 
 #define EMPTY(NAME, OUT)                                                                                    \
     memset(&(OUT), 0xA5, sizeof(OUT));                                                                      \
-    CHECK(sudolog_decode_##NAME(NULL, 0, &(OUT)) == 0)
+    if (decoded)                                                                                            \
+        CHECK(sudolog_decode_##NAME(m, n, &(OUT)) == 0);                                                    \
+    else                                                                                                    \
+        sudolog_get_##NAME(m, n, &(OUT))
 
-static void absent_fields(void)
+static void absent_fields(const uint8_t *m, size_t n, bool decoded)
 {
     struct sudolog_accept accept;
     struct sudolog_exit ended;
@@ -481,7 +489,7 @@ static void absent_fields(void)
     CHECK(is_time(moment, 0, 0));
 }
 
-static void absent_spans_and_lists(void)
+static void absent_spans_and_lists(const uint8_t *m, size_t n, bool decoded)
 {
     struct sudolog_reject reject;
     struct sudolog_alert alert;
@@ -511,6 +519,108 @@ static void absent_spans_and_lists(void)
     CHECK(sudolog_next_string(&strings, &string) == 0);
     EMPTY(number_list, numbers);
     CHECK(sudolog_next_int64(&numbers, &number) == 0);
+}
+
+static void empty_messages(void)
+{
+    size_t i;
+    int decoded;
+    for (decoded = 0; decoded < 2; decoded++) {
+        absent_fields(BYTES("").m, 0, decoded);
+        absent_spans_and_lists(BYTES("").m, 0, decoded);
+        for (i = 0; i < sizeof lengths / sizeof lengths[0]; i++) {
+            absent_fields(NULL, lengths[i], decoded);
+            absent_spans_and_lists(NULL, lengths[i], decoded);
+        }
+    }
+}
+
+/* ---- NULL, which is an empty slice whatever length is given with it ---- */
+
+/* Both readers refuse NULL, or take it, as they do an empty message. */
+#define READ_AS_EMPTY(NAME)                                                                                 \
+    do {                                                                                                    \
+        struct sudolog_##NAME out;                                                                          \
+        CHECK(sudolog_decode_##NAME(NULL, n, &out) == sudolog_decode_##NAME(empty, 0, &out));               \
+        CHECK(sudolog_read_##NAME(NULL, n, &out) == sudolog_read_##NAME(empty, 0, &out));                   \
+    } while (0)
+
+static void null_message(size_t n)
+{
+    const uint8_t *empty = BYTES("").m;
+    struct sudolog_client_message client;
+    struct sudolog_server_message server;
+    READ_AS_EMPTY(client_message);
+    READ_AS_EMPTY(server_message);
+    READ_AS_EMPTY(accept);
+    READ_AS_EMPTY(reject);
+    READ_AS_EMPTY(exit);
+    READ_AS_EMPTY(restart);
+    READ_AS_EMPTY(alert);
+    READ_AS_EMPTY(io_buffer);
+    READ_AS_EMPTY(window_size);
+    READ_AS_EMPTY(suspend);
+    READ_AS_EMPTY(client_hello);
+    READ_AS_EMPTY(server_hello);
+    READ_AS_EMPTY(entry);
+    READ_AS_EMPTY(string_list);
+    READ_AS_EMPTY(number_list);
+    READ_AS_EMPTY(time);
+    REFUSED(decode_client_message, client_message, slice_of(NULL, n), 6);
+    REFUSED(read_server_message, server_message, slice_of(NULL, n), 6);
+    REFUSED(scan_client, client_scan, slice_of(NULL, n), 6);
+    sudolog_get_client_message(NULL, n, &client);
+    CHECK(client.member == 0 && client.content.length == 0);
+    sudolog_get_server_message(NULL, n, &server);
+    CHECK(server.member == 0 && server.content.length == 0 && is_time(server.commit_point, 0, 0));
+    CHECK(cuts(NULL, n, SUDOLOG_FRAME_WAIT, 4));
+}
+
+static void null_fields(size_t n)
+{
+    struct sudolog_span span = sudolog_field_span(1, NULL, n);
+    CHECK(span.offset == 0 && span.length == 0);
+    CHECK(sudolog_field_int64(1, NULL, n) == 0 && sudolog_field_int32(1, NULL, n) == 0);
+    CHECK(sudolog_field_flag(1, NULL, n) == false && is_time(sudolog_field_time(1, NULL, n), 0, 0));
+    CHECK(sudolog_field_parts(1, NULL, n).n == 0);
+}
+
+/* Lists of a NULL message hold no length, and those that hold NULL themselves have no elements. */
+static void null_lists(size_t n)
+{
+    struct sudolog_accept accept;
+    struct sudolog_server_hello hello;
+    struct sudolog_string_list strings;
+    struct sudolog_entry_list entries;
+    struct sudolog_number_list numbers;
+    struct sudolog_entry entry;
+    struct sudolog_span string;
+    int64_t number = 99;
+    sudolog_get_accept(NULL, n, &accept);
+    sudolog_get_server_hello(NULL, n, &hello);
+    sudolog_get_string_list(NULL, n, &strings);
+    sudolog_get_number_list(NULL, n, &numbers);
+    CHECK(accept.entries.parts.n == 0 && hello.servers.parts.n == 0 && strings.parts.n == 0 && numbers.n == 0);
+    CHECK(accept.entries.parts.m != NULL && strings.parts.m != NULL && numbers.m != NULL);
+    strings.parts.m = NULL;
+    strings.parts.n = n;
+    entries.parts = strings.parts;
+    numbers.m = NULL;
+    numbers.n = n;
+    string.length = 99;
+    CHECK(sudolog_next_part(&strings.parts, &string) == 0 && sudolog_next_string(&strings, &string) == 0);
+    CHECK(sudolog_next_entry(&entries, &entry) == 0 && sudolog_next_int64(&numbers, &number) == 0);
+    CHECK(string.length == 99 && number == 99);
+}
+
+static void null_is_empty(void)
+{
+    size_t i;
+    for (i = 0; i < sizeof lengths / sizeof lengths[0]; i++) {
+        null_message(lengths[i]);
+        null_fields(lengths[i]);
+        null_lists(lengths[i]);
+    }
 }
 
 /* ---- refusals ---- */
@@ -723,11 +833,11 @@ static bool refused(uint64_t written, int refusal)
 /* Where a writer writes, and with how much room. */
 #define WIDE buffer, sizeof buffer
 /* A string literal as two arguments: its bytes, without the closing zero, and their number. */
-#define TEXT(BYTES_OF) sudolog_text(BYTES_OF), sizeof(BYTES_OF) - 1
-#define NONE sudolog_lend(NULL), 0
-#define ENDS(ARRAY) ARRAY, sizeof(ARRAY) / sizeof(ARRAY)[0]
-#define NO_ENDS sudolog_lend_ends(NULL), 0
-#define NO_NUMBERS sudolog_lend_numbers(NULL), 0
+#define TEXT(BYTES_OF) SUDOLOG_LEND_TEXT(BYTES_OF, sizeof(BYTES_OF) - 1)
+#define NONE SUDOLOG_LEND(NULL, 0)
+#define ENDS(ARRAY) SUDOLOG_LEND_ENDS(ARRAY, sizeof(ARRAY) / sizeof(ARRAY)[0])
+#define NO_ENDS SUDOLOG_LEND_ENDS(NULL, 0)
+#define NO_NUMBERS SUDOLOG_LEND_NUMBERS(NULL, 0)
 
 #define WRITES(EXPECTED, WRITE)                                                                             \
     do {                                                                                                    \
@@ -829,8 +939,8 @@ static void writes_lists(void)
     WRITES("\x0A\x00", sudolog_write_string_list(NONE, ends, 1, 0, WIDE));
     WRITES("", sudolog_write_string_list(NONE, NO_ENDS, 0, WIDE));
     WRITES("\x0A\x0E\x01\xAC\x02" MINUS_ONE "\x00",
-           sudolog_write_number_list(sudolog_lend_numbers(numbers), 4, 0, WIDE));
-    WRITES("\x0A\x01\x00", sudolog_write_number_list(sudolog_lend_numbers(numbers + 3), 1, 0, WIDE));
+           sudolog_write_number_list(SUDOLOG_LEND_NUMBERS(numbers, 4), 0, WIDE));
+    WRITES("\x0A\x01\x00", sudolog_write_number_list(SUDOLOG_LEND_NUMBERS(numbers + 3, 1), 0, WIDE));
     WRITES("", sudolog_write_number_list(NO_NUMBERS, 0, WIDE));
     WRITES("\x00\x00\x00\x00", sudolog_write_number_list(NO_NUMBERS, 1, WIDE));
 }
@@ -846,7 +956,7 @@ static void writes_entries(void)
     WRITES("\x1A\x0D\x0A\x04" "argv\x22\x05\x0A\x01" "a\x0A\x00",
            sudolog_write_entry_strings(SUDOLOG_ENTRY_OF_ALERT, TEXT("argv"), TEXT("a"), ENDS(ends), 0, WIDE));
     WRITES("\x0A\x04gids\x2A\x04\x0A\x02\x01\x02",
-           sudolog_write_entry_numbers(0, TEXT("gids"), sudolog_lend_numbers(numbers), 2, 0, WIDE));
+           sudolog_write_entry_numbers(0, TEXT("gids"), SUDOLOG_LEND_NUMBERS(numbers, 2), 0, WIDE));
 }
 
 static void writes_empty_lists_in_entries(void)
@@ -875,13 +985,13 @@ static void writes_an_accept_and_a_commit_point(void)
     uint8_t run[512], accept[1024], point[64];
     size_t run_n = 0, accept_n = 0, point_n = 0;
     int refusal = sudolog_add_written(
-        sudolog_write_entry_string(SUDOLOG_ENTRY_OF_ACCEPT, sudolog_text("command"), 7,
-                                   sudolog_text("/bin/ls"), 7, 0, run, sizeof run),
+        sudolog_write_entry_string(SUDOLOG_ENTRY_OF_ACCEPT, SUDOLOG_LEND_STRING("command"),
+                                   SUDOLOG_LEND_STRING("/bin/ls"), 0, run, sizeof run),
         &run_n);
     if (refusal == 0)
         refusal = sudolog_add_written(
-            sudolog_write_entry_strings(SUDOLOG_ENTRY_OF_ACCEPT, sudolog_text("runargv"), 7,
-                                        sudolog_text("ls-l"), 4, ends, 2, 0, run + run_n, sizeof run - run_n),
+            sudolog_write_entry_strings(SUDOLOG_ENTRY_OF_ACCEPT, SUDOLOG_LEND_STRING("runargv"),
+                                        SUDOLOG_LEND_STRING("ls-l"), ends, 2, 0, run + run_n, sizeof run - run_n),
             &run_n);
     if (refusal == 0)
         refusal = sudolog_add_written(
@@ -964,12 +1074,58 @@ static void ends_of_strings(void)
     REFUSES(7, sudolog_write_entry_strings(2, TEXT("k"), TEXT("ab"), NO_ENDS, 0, WIDE));
 }
 
-static void null_room(void)
+static void null_room(size_t n)
 {
-    CHECK(sudolog_write_number_list(NO_NUMBERS, 0, sudolog_lend_room(NULL), 0) == 0);
-    CHECK(sudolog_write_client_hello(0, NONE, 0, sudolog_lend_room(NULL), 0) == 0);
-    CHECK(sudolog_write_time(2, 0, 0, 0, sudolog_lend_room(NULL), 0) == UINT64_C(12) << 32);
-    CHECK(sudolog_lend_room(buffer) == buffer);
+    CHECK(sudolog_write_number_list(NO_NUMBERS, 0, SUDOLOG_LEND_ROOM(NULL, n)) == 0);
+    CHECK(sudolog_write_client_hello(0, NONE, 0, SUDOLOG_LEND_ROOM(NULL, n)) == 0);
+    CHECK(sudolog_write_time(2, 0, 0, 0, SUDOLOG_LEND_ROOM(NULL, n)) == UINT64_C(12) << 32);
+    CHECK(sudolog_write_io(7, 0, 0, TEXT("hi"), 1, SUDOLOG_LEND_ROOM(NULL, n)) == UINT64_C(12) << 32);
+    CHECK(*sudolog_lend_room(NULL) == 0); /* what stands in its place is as it was */
+}
+
+/* Each slice of each writer. */
+static void null_values(size_t n)
+{
+#define NULL_BYTES SUDOLOG_LEND(NULL, n)
+#define NULL_ENDS SUDOLOG_LEND_ENDS(NULL, n)
+#define NULL_NUMBERS SUDOLOG_LEND_NUMBERS(NULL, n)
+    WRITES("\x6A\x00", sudolog_write_client_hello(13, NULL_BYTES, 0, WIDE));
+    WRITES("\x0A\x00", sudolog_write_accept(0, 0, 0, NULL_BYTES, 0, 0, WIDE));
+    WRITES("\x0A\x00", sudolog_write_report(0, 0, 0, NULL_BYTES, NULL_BYTES, 0, WIDE));
+    WRITES("\x0A\x00", sudolog_write_exit(0, 0, 0, 0, 0, NULL_BYTES, NULL_BYTES, 0, WIDE));
+    REFUSES(7, sudolog_write_restart(0, NULL_BYTES, 0, 0, 0, WIDE));
+    WRITES("\x0A\x00", sudolog_write_io(0, 0, 0, NULL_BYTES, 0, WIDE));
+    REFUSES(7, sudolog_write_suspend(0, 0, 0, NULL_BYTES, 0, WIDE));
+    WRITES("", sudolog_write_server_hello(0, NULL_BYTES, NULL_BYTES, NULL_BYTES, NULL_ENDS, 0, 0, WIDE));
+    REFUSES(7, sudolog_write_server_hello(0, NULL_BYTES, NULL_BYTES, TEXT("a"), NULL_ENDS, 0, 0, WIDE));
+    WRITES("\x1A\x00", sudolog_write_note(3, NULL_BYTES, 0, WIDE));
+    WRITES("", sudolog_write_string_list(NULL_BYTES, NULL_ENDS, 0, WIDE));
+    WRITES("", sudolog_write_number_list(NULL_NUMBERS, 0, WIDE));
+    REFUSES(7, sudolog_write_entry_number(0, NULL_BYTES, 0, 0, WIDE));
+    WRITES("\x0A\x01k\x1A\x00", sudolog_write_entry_string(0, TEXT("k"), NULL_BYTES, 0, WIDE));
+    WRITES("\x0A\x01k\x22\x00", sudolog_write_entry_strings(0, TEXT("k"), NULL_BYTES, NULL_ENDS, 0, WIDE));
+    WRITES("\x0A\x01k\x2A\x00", sudolog_write_entry_numbers(0, TEXT("k"), NULL_NUMBERS, 0, WIDE));
+    WRITES("\x1A\x00", sudolog_write_note(3, SUDOLOG_LEND_TEXT(NULL, n), 0, WIDE));
+    null_room(n);
+}
+
+static void null_is_lent_empty(void)
+{
+    size_t i;
+    for (i = 0; i < sizeof lengths / sizeof lengths[0]; i++)
+        null_values(lengths[i]);
+}
+
+/* What is not NULL is lent as it is. */
+static void lent_as_it_is(void)
+{
+    static const size_t ends[] = { 1, 2 };
+    static const int64_t numbers[] = { 1, 2 };
+    CHECK(sudolog_lend(buffer) == buffer && sudolog_lend_room(buffer) == buffer && sudolog_lend_ends(ends) == ends);
+    CHECK((const void *)sudolog_lend_numbers(numbers) == (const void *)numbers && sudolog_lent(buffer, 5) == 5);
+    WRITES("\x1A\x02id", sudolog_write_note(3, SUDOLOG_LEND_STRING("id\0no"), 0, WIDE));
+    WRITES("\x1A\x03id\0", sudolog_write_note(3, SUDOLOG_LEND_TEXT("id\0no", 3), 0, WIDE));
+    WRITES("\x1A\x00", sudolog_write_note(3, SUDOLOG_LEND_STRING(NULL), 0, WIDE));
 }
 
 /* ---- refusals ---- */
@@ -1106,11 +1262,11 @@ static void exact_room(void)
         FITS(sudolog_write_time(2, 5, 7, framed, buffer, room));
         FITS(sudolog_write_note(3, TEXT("id"), framed, buffer, room));
         FITS(sudolog_write_string_list(TEXT("ab"), ENDS(ends), framed, buffer, room));
-        FITS(sudolog_write_number_list(sudolog_lend_numbers(numbers), 2, framed, buffer, room));
+        FITS(sudolog_write_number_list(SUDOLOG_LEND_NUMBERS(numbers, 2), framed, buffer, room));
         FITS(sudolog_write_entry_number(2, TEXT("k"), 300, framed, buffer, room));
         FITS(sudolog_write_entry_string(3, TEXT("k"), TEXT("v"), framed, buffer, room));
         FITS(sudolog_write_entry_strings(2, TEXT("k"), TEXT("ab"), ENDS(ends), framed, buffer, room));
-        FITS(sudolog_write_entry_numbers(3, TEXT("k"), sudolog_lend_numbers(numbers), 2, framed, buffer, room));
+        FITS(sudolog_write_entry_numbers(3, TEXT("k"), SUDOLOG_LEND_NUMBERS(numbers, 2), framed, buffer, room));
     }
 }
 
@@ -1221,8 +1377,8 @@ int main(void)
     last_one_counts();
     longer_forms_are_read();
     numbers_above_the_messages();
-    absent_fields();
-    absent_spans_and_lists();
+    empty_messages();
+    null_is_empty();
     each_refusal();
     nothing_written();
     leftmost_place_first();
@@ -1247,7 +1403,8 @@ int main(void)
     run_is_read_first();
     run_has_entries_alone();
     ends_of_strings();
-    null_room();
+    null_is_lent_empty();
+    lent_as_it_is();
     members_that_are_none();
     written_ranges_of_times();
     written_ranges_of_the_rest();

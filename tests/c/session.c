@@ -3,8 +3,8 @@
  * fails and at the end 'N passed, M failed'; exit status 1 on a failure.
  *
  * The marked examples 7 to 10 of the scope document; the 40 bytes of a session, and bytes that are none; what a
- * refusal leaves as it was; the turns of I/O bytes; which of two refusals goes first; that a restart and a file check
- * touch no data bytes; and that data of every size is stored byte for byte.
+ * refusal leaves as it was; the turns of I/O bytes; which of two refusals goes first; NULL in the place of a message
+ * and of an area; that a restart and a file check touch no data bytes; and that data of every size is stored byte for byte.
  */
 #define _DEFAULT_SOURCE
 #include "check.h"
@@ -45,8 +45,8 @@ static void make_accept(struct host *h, bool io)
     uint8_t run[256];
     size_t run_n = 0, i;
     for (i = 0; i < 4; i++)
-        CHECK(sudolog_add_written(sudolog_write_entry_string(SUDOLOG_ENTRY_OF_ACCEPT, sudolog_text(keys[i]),
-                                                             strlen(keys[i]), sudolog_text("x"), 1, 0, run + run_n,
+        CHECK(sudolog_add_written(sudolog_write_entry_string(SUDOLOG_ENTRY_OF_ACCEPT, SUDOLOG_LEND_STRING(keys[i]),
+                                                             SUDOLOG_LEND_STRING("x"), 0, run + run_n,
                                                              sizeof run - run_n),
                                   &run_n)
               == 0);
@@ -62,22 +62,22 @@ static int accept_io(struct host *h)
 
 static int ttyout(struct host *h, uint64_t seconds)
 {
-    made(h, sudolog_write_io(SUDOLOG_FROM_CLIENT_TTYOUT, seconds, 0, sudolog_text("hi"), 2, 0, h->message,
+    made(h, sudolog_write_io(SUDOLOG_FROM_CLIENT_TTYOUT, seconds, 0, SUDOLOG_LEND_STRING("hi"), 0, h->message,
                              sizeof h->message));
     return hand_over(h);
 }
 
 static int restart(struct host *h, uint64_t seconds)
 {
-    made(h, sudolog_write_restart(SUDOLOG_FROM_CLIENT_RESTART, sudolog_text("a"), 1, seconds, 0, 0, h->message,
+    made(h, sudolog_write_restart(SUDOLOG_FROM_CLIENT_RESTART, SUDOLOG_LEND_STRING("a"), seconds, 0, 0, h->message,
                                   sizeof h->message));
     return hand_over(h);
 }
 
 static int leave(struct host *h)
 {
-    made(h, sudolog_write_exit(SUDOLOG_FROM_CLIENT_EXIT, 9, 0, 0, 0, sudolog_text(""), 0, sudolog_text(""), 0, 0,
-                               h->message, sizeof h->message));
+    made(h, sudolog_write_exit(SUDOLOG_FROM_CLIENT_EXIT, 9, 0, 0, 0, SUDOLOG_LEND_STRING(NULL), SUDOLOG_LEND_STRING(NULL),
+                               0, h->message, sizeof h->message));
     return hand_over(h);
 }
 
@@ -232,7 +232,7 @@ static void test_refusals(void)
     CHECK(hand_over(&h) == 0 && h.answer.state == SUDOLOG_STATE_EVENTS_ONLY && h.used == 0);
     CHECK(memcmp(h.area, before.area, AREA) == 0 && leave(&h) == 0 && !h.answer.has_point);
     h = opened();
-    made(&h, sudolog_write_accept(SUDOLOG_FROM_CLIENT_ACCEPT, 1, 0, sudolog_text(""), 0, 1, 0, h.message,
+    made(&h, sudolog_write_accept(SUDOLOG_FROM_CLIENT_ACCEPT, 1, 0, SUDOLOG_LEND(NULL, 0), 1, 0, h.message,
                                   sizeof h.message));
     CHECK(hand_over(&h) == 8 && h.answer.key == 0);
 }
@@ -280,7 +280,7 @@ static void test_turns_of_io(void)
         struct host fresh = opened(), greeted = fresh, logging = fresh, events = fresh, closed;
         struct host *const others[] = { &fresh, &greeted, &events, &closed };
         size_t i;
-        made(&greeted, sudolog_write_client_hello(SUDOLOG_FROM_CLIENT_HELLO, sudolog_text("c"), 1, 0, greeted.message,
+        made(&greeted, sudolog_write_client_hello(SUDOLOG_FROM_CLIENT_HELLO, SUDOLOG_LEND_STRING("c"), 0, greeted.message,
                                                   sizeof greeted.message));
         CHECK(hand_over(&greeted) == 0 && greeted.answer.state == SUDOLOG_STATE_GREETED);
         make_accept(&events, false);
@@ -289,7 +289,7 @@ static void test_turns_of_io(void)
         closed = logging;
         CHECK(leave(&closed) == 0 && closed.answer.state == SUDOLOG_STATE_CLOSED);
         made(&logging,
-             sudolog_write_io(member, 0, 0, sudolog_text("hi"), 2, 0, logging.message, sizeof logging.message));
+             sudolog_write_io(member, 0, 0, SUDOLOG_LEND_STRING("hi"), 0, logging.message, sizeof logging.message));
         for (i = 0; i < 4; i++)
             CHECK(refusal_of(*others[i], logging.message, logging.n, others[i]->used) == 9);
         CHECK(hand_over(&logging) == 0 && logging.answer.state == SUDOLOG_STATE_LOGGING);
@@ -304,10 +304,58 @@ static void test_restart_point_before_room(void)
         struct host h = four_records();
         h = reconnected(&h);
         CHECK(restart(&h, 1) == 0);
-        made(&h, sudolog_write_io(SUDOLOG_FROM_CLIENT_TTYOUT, delay, 0, sudolog_text("hi"), 2, 0, h.message,
+        made(&h, sudolog_write_io(SUDOLOG_FROM_CLIENT_TTYOUT, delay, 0, SUDOLOG_LEND_STRING("hi"), 0, h.message,
                                   sizeof h.message));
         CHECK(sudolog_take_message(&h.session, h.message, h.n, h.area, h.used, h.used, &h.answer)
               == (delay == 0 ? 11 : 12));
+    }
+}
+
+/* A NULL message of any length is an empty one: 6. */
+static void test_null_message(size_t n)
+{
+    struct host h = four_records();
+    CHECK(refusal_of(opened(), NULL, n, 0) == 6);
+    CHECK(refusal_of(h, NULL, n, h.used) == 6);
+}
+
+/* What the host's message gives over a NULL area. What stands in the area's place stays as it was. */
+static int over_null(struct host h, size_t area_n, size_t used)
+{
+    int refusal = sudolog_take_message(&h.session, h.message, h.n, NULL, area_n, used, &h.answer);
+    CHECK(h.answer.used == used && *sudolog_lend_room(NULL) == 0);
+    CHECK(refusal == 0 || h.answer.state == SUDOLOG_STATE_CLOSED);
+    return refusal;
+}
+
+/* A NULL area of any length is one of length 0, as memory that could not be had. */
+static void test_null_area(size_t area_n)
+{
+    struct host h = opened();
+    made(&h, sudolog_write_client_hello(SUDOLOG_FROM_CLIENT_HELLO, SUDOLOG_LEND_STRING("c"), 0, h.message,
+                                        sizeof h.message));
+    CHECK(over_null(h, area_n, 0) == 0); /* needs no area */
+    make_accept(&h, false);
+    CHECK(over_null(h, area_n, 0) == 0);
+    make_accept(&h, true);
+    CHECK(over_null(h, area_n, 0) == 12);
+    CHECK(over_null(h, area_n, 1) == 15);
+    made(&h, sudolog_write_restart(SUDOLOG_FROM_CLIENT_RESTART, SUDOLOG_LEND_STRING("a"), 0, 0, 0, h.message,
+                                   sizeof h.message));
+    CHECK(over_null(h, area_n, 0) == 15);
+    h = four_records(); /* in logging: the message is a ttyout */
+    CHECK(over_null(h, area_n, h.used) == 15);
+    CHECK(sudolog_check_file(SUDOLOG_LEND(NULL, area_n), 0) == SUDOLOG_FILE_REFUSED);
+    CHECK(sudolog_check_file(SUDOLOG_LEND(NULL, area_n), 1) == SUDOLOG_FILE_REFUSED);
+}
+
+static void test_null(void)
+{
+    static const size_t lengths[] = { 0, 1, 40, AREA, 2097153, SIZE_MAX };
+    size_t i;
+    for (i = 0; i < sizeof lengths / sizeof lengths[0]; i++) {
+        test_null_message(lengths[i]);
+        test_null_area(lengths[i]);
     }
 }
 
@@ -344,7 +392,7 @@ static void test_headers_alone(void)
     }
     CHECK(sudolog_check_file(area, SIZE, used) == SUDOLOG_FILE_UNFINISHED);
     session = sudolog_new_session();
-    made(&h, sudolog_write_restart(SUDOLOG_FROM_CLIENT_RESTART, sudolog_text("a"), 1, 1, 0, 0, h.message,
+    made(&h, sudolog_write_restart(SUDOLOG_FROM_CLIENT_RESTART, SUDOLOG_LEND_STRING("a"), 1, 0, 0, h.message,
                                    sizeof h.message));
     CHECK(sudolog_take_message(&session, h.message, h.n, area, SIZE, used, &answer) == 0 && answer.used == ends[1]);
     munmap(area, SIZE);
@@ -402,6 +450,7 @@ int main(void)
     test_turns_of_io();
     test_lengths_before_ranges();
     test_restart_point_before_room();
+    test_null();
     test_headers_alone();
     test_sizes();
     return checked();

@@ -1,4 +1,4 @@
-"""The writers as the test scripts ask for them: requests to tests/driver.c, made of values.
+"""The writers as the test scripts ask for them: requests to tests/c/driver.c, made of values.
 
 A value has the shape of the vector files. What a writer is lent has its own: an accept, reject or alert
 has `run`, the entries written before, in place of `info_msgs`, and a list of strings is [joined, ends].

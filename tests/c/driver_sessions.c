@@ -120,8 +120,8 @@ static struct sudolog_answer take(size_t k, struct bytes m, struct bytes *area, 
 {
     struct sudolog_answer answer;
     uint8_t out[40];
-    int refusal = sudolog_session_message(sessions[k].bytes, sessions[k].n, sudolog_lend(m.m), m.n,
-                                          sudolog_lend_room(area->m), area->n, used, out, sizeof out);
+    int refusal = sudolog_session_message(sessions[k].bytes, sessions[k].n, SUDOLOG_LEND(m.m, m.n),
+                                          SUDOLOG_LEND_ROOM(area->m, area->n), used, out, sizeof out);
     sudolog_get_answer(refusal, out, &answer);
     return answer;
 }
@@ -134,7 +134,7 @@ static void answer_message_in(char *words)
     struct bytes m = from_hex(words != NULL ? words : "");
     struct sudolog_answer answer = take(k, m, area, used);
     if (answer.refusal == 0) {
-        printf("{\"taken\":%" PRIu64 ",", sudolog_member(SUDOLOG_CLIENT_MESSAGE, sudolog_lend(m.m), m.n));
+        printf("{\"taken\":%" PRIu64 ",", sudolog_member(SUDOLOG_CLIENT_MESSAGE, SUDOLOG_LEND(m.m, m.n)));
         put_point(answer.has_point, answer.point);
     } else if (answer.refusal == 8) {
         printf("{\"refused\":8,\"key\":%d", answer.key);
@@ -162,7 +162,7 @@ static void answer_file(char *words)
 {
     struct bytes *area = &areas[next_number(&words, AREAS)];
     size_t used = next_number(&words, SIZE_MAX);
-    uint8_t is = sudolog_check_file(sudolog_lend(area->m), area->n, used);
+    uint8_t is = sudolog_check_file(SUDOLOG_LEND(area->m, area->n), used);
     if (is == SUDOLOG_FILE_UNFINISHED || is == SUDOLOG_FILE_FINISHED)
         printf("{\"finished\":%s}\n", is == SUDOLOG_FILE_FINISHED ? "true" : "false");
     else

@@ -73,9 +73,8 @@ static void add_written(struct recording *r, uint64_t written, uint64_t delay)
 
 static void add_entry(uint8_t *run, size_t room, size_t *n, const char *key, const char *value)
 {
-    CHECK(sudolog_add_written(sudolog_write_entry_string(SUDOLOG_ENTRY_OF_ACCEPT, sudolog_text(key), strlen(key),
-                                                         sudolog_text(value), strlen(value), false, run + *n,
-                                                         room - *n),
+    CHECK(sudolog_add_written(sudolog_write_entry_string(SUDOLOG_ENTRY_OF_ACCEPT, SUDOLOG_LEND_STRING(key),
+                                                         SUDOLOG_LEND_STRING(value), false, run + *n, room - *n),
                               n)
           == 0);
 }
@@ -84,8 +83,8 @@ static void add_entry(uint8_t *run, size_t room, size_t *n, const char *key, con
 static void add_words(uint8_t *run, size_t room, size_t *n)
 {
     static const size_t ends[] = { 2, 6 };
-    CHECK(sudolog_add_written(sudolog_write_entry_strings(SUDOLOG_ENTRY_OF_ACCEPT, sudolog_text("runargv"), 7,
-                                                          sudolog_text("vipage"), 6, ends, 2, false, run + *n,
+    CHECK(sudolog_add_written(sudolog_write_entry_strings(SUDOLOG_ENTRY_OF_ACCEPT, SUDOLOG_LEND_STRING("runargv"),
+                                                          SUDOLOG_LEND_STRING("vipage"), ends, 2, false, run + *n,
                                                           room - *n),
                               n)
           == 0);
@@ -107,15 +106,15 @@ static void add_accept(struct recording *r)
 
 static void add_output(struct recording *r, uint64_t seconds, const char *text)
 {
-    add_written(r, sudolog_write_io(SUDOLOG_FROM_CLIENT_TTYOUT, seconds, 0, sudolog_text(text), strlen(text), true,
+    add_written(r, sudolog_write_io(SUDOLOG_FROM_CLIENT_TTYOUT, seconds, 0, SUDOLOG_LEND_STRING(text), true,
                                     frame_room(r), 512),
                 seconds * SECOND);
 }
 
 static void add_exit(struct recording *r, uint64_t seconds)
 {
-    add_written(r, sudolog_write_exit(SUDOLOG_FROM_CLIENT_EXIT, seconds, 0, 0, false, sudolog_text(""), 0,
-                                      sudolog_text(""), 0, true, frame_room(r), 512),
+    add_written(r, sudolog_write_exit(SUDOLOG_FROM_CLIENT_EXIT, seconds, 0, 0, false, SUDOLOG_LEND_STRING(NULL),
+                                      SUDOLOG_LEND_STRING(NULL), true, frame_room(r), 512),
                 0);
 }
 
@@ -193,14 +192,14 @@ static void line_up(struct client *client)
     const struct recording *r = client->recording;
     struct sudolog_time point = sudolog_time_of(client->point);
     size_t n = 0, from = 0, end = r->ends[r->count - 1];
-    CHECK(sudolog_add_written(sudolog_write_client_hello(SUDOLOG_FROM_CLIENT_HELLO, sudolog_text("client"), 6, true,
+    CHECK(sudolog_add_written(sudolog_write_client_hello(SUDOLOG_FROM_CLIENT_HELLO, SUDOLOG_LEND_STRING("client"), true,
                                                          client->line, 128),
                               &n)
           == 0);
     if (client->has_point) {
-        CHECK(sudolog_add_written(sudolog_write_restart(SUDOLOG_FROM_CLIENT_RESTART, sudolog_text(client->log_id),
-                                                        strlen(client->log_id), (uint64_t)point.seconds,
-                                                        (uint64_t)point.nanoseconds, true, client->line + n, 128),
+        CHECK(sudolog_add_written(sudolog_write_restart(SUDOLOG_FROM_CLIENT_RESTART, SUDOLOG_LEND_STRING(client->log_id),
+                                                        (uint64_t)point.seconds, (uint64_t)point.nanoseconds, true,
+                                                        client->line + n, 128),
                                   &n)
               == 0);
         from = start_after(r, client->point);
@@ -308,7 +307,7 @@ static void start_over(const struct recording *r)
 
 static struct file *clients_file(void)
 {
-    struct file *file = file_of(&host, sudolog_text(client.log_id), strlen(client.log_id));
+    struct file *file = file_of(&host, SUDOLOG_LEND_STRING(client.log_id));
     if (file == NULL)
         give_up("the client has no file", "");
     return file;
@@ -431,8 +430,8 @@ static bool ends_with_error(const struct connection *c, int refusal)
 {
     uint8_t note[128];
     size_t n = 0;
-    CHECK(sudolog_add_written(sudolog_write_note(SUDOLOG_FROM_SERVER_ERROR, sudolog_text(reasons[refusal]),
-                                                 strlen(reasons[refusal]), true, note, sizeof note),
+    CHECK(sudolog_add_written(sudolog_write_note(SUDOLOG_FROM_SERVER_ERROR, SUDOLOG_LEND_STRING(reasons[refusal]), true,
+                                                 note, sizeof note),
                               &n)
           == 0);
     return c->answered >= n && memcmp(c->answers + c->answered - n, note, n) == 0;
@@ -457,8 +456,8 @@ static void test_refusals(const struct recording *r, const struct file *whole)
     CHECK(is_refused(too_long, sizeof too_long, TOO_LONG));
     CHECK(is_refused(empty, sizeof empty, 6));
     CHECK(is_refused(r->frames + r->ends[0], r->ends[1] - r->ends[0], 9)); /* a record before the accept */
-    CHECK(sudolog_add_written(sudolog_write_restart(SUDOLOG_FROM_CLIENT_RESTART, sudolog_text("file-99"), 7, 0, 0, true,
-                                                    restart, sizeof restart),
+    CHECK(sudolog_add_written(sudolog_write_restart(SUDOLOG_FROM_CLIENT_RESTART, SUDOLOG_LEND_STRING("file-99"), 0, 0,
+                                                    true, restart, sizeof restart),
                               &n)
           == 0);
     CHECK(is_refused(restart, n, 15)); /* no such file: no area is lent */
