@@ -8,6 +8,7 @@ ghost use lib.ListN.{length, take};
 ghost use Rattle.base_laws.specs.Base.{splice};
 ghost use Rattle.base_copy.specs.Block.{blockStored};
 ghost use Rattle.base_copy.specs.Copy.{fits, copied};
+ghost use Rattle.base_copy.specs.Put.{Put};
 
 // Bytes one after the other.
 fn copy_few(area: &mut [u8], at: usize, bytes: &[u8])
@@ -129,4 +130,14 @@ pub fn copy_into(area: &mut [u8], at: usize, bytes: &[u8]) -> bool
     }
     copy_all(area, at, bytes);
     true
+}
+
+// The same where there is room, as callers put bytes one after the other: returns the place after them. It is for them: a host copies by
+// `copy_into`, which requires nothing.
+pub fn put_raw(out: &mut [u8], at: usize, d: &[u8]) -> usize
+    requires { ⌜ at + length (now d) ≤ length (now out) ⌝ }
+    ensures { λ r. ⌜ Put (now (out .entry)) at (now (d .entry)) (now (out .exit)) r ⌝ }
+{
+    copy_into(out, at, d);
+    at + d.len()
 }

@@ -6,8 +6,8 @@ use Rattle.base_laws.specs.Base.{pick}
 use Rattle.wire_schema.specs.Schema.{ClientMessage, InfoMessage, ServerMessage}
 use Rattle.wire_fields.specs.Fields.{lastIn, memberFrom}
 use Rattle.base_numbers.specs.Eight.{laid}
-use Rattle.wire_walk_client.specs.declared.ClientRead.{ClientRead}
-use Rattle.wire_walk_client.specs.declared.ClientRead.the-variants as client
+use Rattle.wire_types.specs.declared.ClientRead.{ClientRead}
+use Rattle.wire_types.specs.declared.ClientRead.the-variants as client
 
 -- the member of a message that has a oneof: its fields 1 to 13, 1 to 5 or 2 to 5
 unfoldable pub memberOf : ℕ → List ℕ → ℕ

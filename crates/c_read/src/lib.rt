@@ -11,7 +11,7 @@ use wire_fields::last_in;
 use wire_frame::count_of;
 use wire_frame::cut_frame;
 use wire_frame::state_of;
-use wire_walk_client::ClientRead;
+use wire_types::ClientRead;
 ghost use mathlib.Core.Path.{_≡_};
 ghost use lib.ListN.{length};
 ghost use Rattle.wire_frame.specs.Frame.{cutOf, stateOf, countOf};

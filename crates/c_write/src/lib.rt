@@ -6,7 +6,7 @@ ghost use mathlib.Core.List.{[], _∷_};
 ghost use lib.ListN.{length};
 ghost use Rattle.wire_message.specs.Signed.{bool};
 ghost use Rattle.c_write.specs.Answer.{answerOf};
-ghost use Rattle.write_pieces.specs.Put.{stamp};
+ghost use Rattle.write_pieces.specs.Parts.{stamp};
 ghost use Rattle.write_message.specs.Fits.{acceptFits, clientHelloFits, endsFit, entryFits, entryStringsFits, exitFits, ioFits, noteFits, reportFits, restartFits, serverHelloFits, suspendFits, timeFits, windowFits};
 ghost use Rattle.write_message.specs.Wrote.{wrote};
 ghost use Rattle.write_forms.specs.Draft.{acceptPieces, clientHelloPieces, cutAt, entryPieces, exitPieces, numberListPieces, numlistval, numval, reportPieces, restartPieces, serverHelloPieces, stringListPieces, strlistval, strval, timePieces, timedPieces, windowPieces, wrapped};

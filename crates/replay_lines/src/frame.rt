@@ -1,4 +1,5 @@
 // The line of a frame, written at the start of a lent buffer. A buffer of 256 bytes has room for it.
+use base_copy::put_raw;
 use replay_text::names::member_of;
 use replay_text::names::put_member;
 use replay_text::names::put_state;
@@ -7,12 +8,11 @@ use replay_text::numbers::put_nine;
 use session::Answer;
 use session::Point;
 use session_turn::State;
-use write_pieces::part::put_raw;
 ghost use mathlib.Core.Path.{_≡_};
 ghost use mathlib.Core.List.{[]};
 ghost use Prim.Native.Nat.{_+_, _≤_};
 ghost use lib.ListN.{length};
-ghost use Rattle.write_pieces.specs.Put.{Put};
+ghost use Rattle.base_copy.specs.Put.{Put};
 ghost use Rattle.session.specs.Step.{outcome};
 ghost use Rattle.replay_text.specs.Names.{memberOf};
 ghost use Rattle.replay_lines.specs.Wording.{heading, verdict, standing, pointText, keyText, frameLine, written, lineLength};

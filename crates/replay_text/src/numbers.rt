@@ -1,10 +1,10 @@
 // The numbers in a line, in decimal. These functions are for the lines above, which
 // have seen to the room before they put anything: `put_..` requires it, and answers the place after what it put.
-use write_pieces::part::put_raw;
+use base_copy::put_raw;
 ghost use mathlib.Core.Path.{_≡_};
 ghost use Prim.Native.Nat.{_+_, _≤_, _<_};
 ghost use lib.ListN.{length};
-ghost use Rattle.write_pieces.specs.Put.{Put};
+ghost use Rattle.base_copy.specs.Put.{Put};
 ghost use Rattle.replay_text.specs.Words.{digits, decimal, nine};
 
 // The last digit stands after all the others, so the others are put first.

@@ -23,8 +23,8 @@ use Rattle.wire_fields.proofs.Items.{contentOf, last-means, bytes-means}
 use Rattle.wire_walk_io.specs.Places.{timeIn, ioRead, ioBufferOf}
 use Rattle.wire_walk_client.specs.Client.{memberRead, clientFrom, clientRead, clientOf}
 use Rattle.wire_walk_io.specs.declared.io.IoRead.the-variants as ioread
-use Rattle.wire_walk_client.specs.declared.ClientRead.{ClientRead}
-use Rattle.wire_walk_client.specs.declared.ClientRead.the-variants as client
+use Rattle.wire_types.specs.declared.ClientRead.{ClientRead}
+use Rattle.wire_types.specs.declared.ClientRead.the-variants as client
 use Rattle.wire_message.specs.Message.{clientMember, ioBuf, timed}
 use Rattle.wire_message.specs.Places.{timeValue}
 use Rattle.wire_message.proofs.Meaning.{time-means}

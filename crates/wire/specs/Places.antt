@@ -3,8 +3,8 @@ use Prim.Native.Nat.{ℕ}
 use mathlib.Core.List.{List}
 use Rattle.base_laws.specs.Base.{part}
 use Rattle.wire_fields.specs.Items.{items}
-use Rattle.wire_walk_client.specs.declared.ClientRead.{ClientRead}
-use Rattle.wire_walk_client.specs.declared.ClientRead.the-variants as client
+use Rattle.wire_types.specs.declared.ClientRead.{ClientRead}
+use Rattle.wire_types.specs.declared.ClientRead.the-variants as client
 use Rattle.wire_message.specs.Message.{Client, Server, clientMember, serverMember, ioBuf}
 use Rattle.wire_message.specs.Places.{timeValue}
 use Rattle.wire.specs.Read.{Reading, value, refused}

@@ -6,7 +6,7 @@ use wire_fast_client::client;
 use wire_fields::Last;
 use wire_fields::last_in;
 use wire_range::in_range;
-use wire_walk_client::ClientRead;
+use wire_types::ClientRead;
 ghost use mathlib.Core.Path.{_≡_};
 ghost use Rattle.wire_fields.specs.Items.{items, lastItem};
 ghost use Rattle.wire_walk_client.specs.Client.{clientOf};

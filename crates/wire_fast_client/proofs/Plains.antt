@@ -30,7 +30,7 @@ use Rattle.wire_fast_client.specs.declared.Tail.the-variants as tail
 use Rattle.wire_fast_client.specs.declared.PlainIo.{PlainIo}
 use Rattle.wire_fast_client.specs.declared.PlainIo.the-variants as io
 use Rattle.wire_fast_client.specs.declared.PlainClient.the-variants as client
-use Rattle.wire_walk_client.specs.declared.ClientRead.the-variants as clientread
+use Rattle.wire_types.specs.declared.ClientRead.the-variants as clientread
 use Rattle.wire_walk_io.proofs.Times as times
 use Rattle.wire_walk_io.proofs.Ios as ios
 use Rattle.wire_walk_client.proofs.Clients as clients

@@ -18,7 +18,7 @@ use Rattle.wire_walk_io.specs.Places.{timeSpecOf, ioBufferOf}
 use Rattle.wire_walk_client.specs.Client.{clientOf}
 use Rattle.wire_walk_io.specs.declared.time.TimeRead.the-variants as timeread
 use Rattle.wire_walk_io.specs.declared.io.IoRead.the-variants as ioread
-use Rattle.wire_walk_client.specs.declared.ClientRead.the-variants as clientread
+use Rattle.wire_types.specs.declared.ClientRead.the-variants as clientread
 use Rattle.wire_fast_client.specs.declared.Ending.{Ending}
 use Rattle.wire_fast_client.specs.declared.Ending.the-variants as ending
 use Rattle.wire_fast_client.specs.declared.PlainTime.{PlainTime}

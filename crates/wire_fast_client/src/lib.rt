@@ -3,9 +3,9 @@
 use base_laws::wide;
 use wire_fields::Found;
 use wire_fields::part_found;
+use wire_types::ClientRead;
 use wire_varint::Varint;
 use wire_varint::varint_at;
-use wire_walk_client::ClientRead;
 use wire_walk_client::client_walk;
 ghost use mathlib.Core.Path.{_≡_};
 ghost use lib.ListN.{length};

@@ -5,7 +5,7 @@ use wire_fields::number_in;
 use wire_fields::part_in;
 use wire_message::Value;
 use wire_message::value_in;
-use wire_walk_io::time::Time;
+use wire_types::Time;
 use wire_walk_io::time::time_in;
 ghost use mathlib.Core.Path.{_≡_};
 ghost use Prim.Native.Nat.{_<_};

@@ -29,10 +29,10 @@ use Rattle.wire_fields.specs.declared.Field.{Field}
 use Rattle.wire_fields.specs.declared.Field.the-variants as field
 use Rattle.wire_fields.specs.declared.Last.{Last}
 use Rattle.wire_fields.specs.declared.Last.the-variants as last
-use Rattle.wire_walk_io.specs.declared.time.Time.{Time}
+use Rattle.wire_types.specs.declared.Time.{Time}
 use Rattle.wire_walk_io.specs.declared.io.IoRead.the-variants as ioread
-use Rattle.wire_walk_client.specs.declared.ClientRead.{ClientRead}
-use Rattle.wire_walk_client.specs.declared.ClientRead.the-variants as client
+use Rattle.wire_types.specs.declared.ClientRead.{ClientRead}
+use Rattle.wire_types.specs.declared.ClientRead.the-variants as client
 use Rattle.wire_check_field.proofs.Checks.{at-end}
 use Rattle.wire_fields.proofs.Follow.{none, span-lies}
 use Rattle.wire_schema.proofs.Rows.{kinds}

@@ -27,7 +27,7 @@ use Rattle.wire_fields.specs.declared.Field.{Field}
 use Rattle.wire_fields.specs.declared.Field.the-variants as field
 use Rattle.wire_fields.specs.declared.Last.{Last}
 use Rattle.wire_fields.specs.declared.Last.the-variants as last
-use Rattle.wire_walk_io.specs.declared.time.Time.{Time}
+use Rattle.wire_types.specs.declared.Time.{Time}
 use Rattle.wire_walk_io.specs.declared.time.TimeRead.the-variants as timeread
 use Rattle.wire_walk_io.specs.declared.io.IoRead.the-variants as ioread
 use Rattle.wire_check_field.proofs.Checks.{at-end}

@@ -10,7 +10,7 @@ use Rattle.wire_fields.specs.declared.Last.{Last}
 use Rattle.wire_fields.specs.declared.Last.the-variants as last
 use Rattle.wire_check_field.specs.declared.Checked.{Checked}
 use Rattle.wire_check_field.specs.declared.Checked.the-variants as checked
-use Rattle.wire_walk_io.specs.declared.time.Time.{Time}
+use Rattle.wire_types.specs.declared.Time.{Time}
 use Rattle.wire_walk_io.specs.declared.time.TimeRead.{TimeRead}
 use Rattle.wire_walk_io.specs.declared.time.TimeRead.the-variants as timeread
 use Rattle.wire_walk_io.specs.declared.io.IoRead.{IoRead}

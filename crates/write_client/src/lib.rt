@@ -19,7 +19,7 @@ ghost use lib.ListN.{length};
 ghost use Rattle.write_forms.specs.Draft.{acceptPieces, reportPieces, restartPieces, clientHelloPieces, wrapped};
 ghost use Rattle.write_forms.specs.Run.{runRefusal};
 ghost use Rattle.write_forms.specs.Outcome.{buffer};
-ghost use Rattle.write_pieces.specs.Put.{stamp};
+ghost use Rattle.write_pieces.specs.Parts.{stamp};
 ghost use Rattle.write_message.specs.Fits.{clientHelloFits, acceptFits, reportMember, reportFits, restartFits};
 ghost use Rattle.write_message.specs.Wrote.{wrote};
 

@@ -12,7 +12,7 @@ ghost use mathlib.Core.Path.{_≡_};
 ghost use lib.ListN.{length};
 ghost use Rattle.write_forms.specs.Draft.{exitPieces, timedPieces, windowPieces, wrapped};
 ghost use Rattle.write_forms.specs.Outcome.{buffer};
-ghost use Rattle.write_pieces.specs.Put.{stamp};
+ghost use Rattle.write_pieces.specs.Parts.{stamp};
 ghost use Rattle.write_message.specs.Fits.{exitFits, ioFits, windowFits, suspendFits};
 ghost use Rattle.write_message.specs.Wrote.{wrote};
 

@@ -1,16 +1,17 @@
 // Lists of strings, lent as joined bytes and ends, and packed numbers.
+use base_copy::put_raw;
 use write_pieces::number::len_varint;
 use write_pieces::number::put_varint;
 use write_pieces::part::len_head;
 use write_pieces::part::put_head;
-use write_pieces::part::put_raw;
 ghost use mathlib.Core.Path.{_≡_};
 ghost use Prim.Native.Nat.{_+_, _≤_};
 ghost use mathlib.Core.Bool.{false, not};
 ghost use lib.ListN.{length};
 ghost use Rattle.write_forms.specs.Pieces.{elements, text, encode, packed};
 ghost use Rattle.write_forms.specs.Draft.{cutAt, badEnds};
-ghost use Rattle.write_pieces.specs.Put.{Put, Like};
+ghost use Rattle.base_copy.specs.Put.{Put};
+ghost use Rattle.write_pieces.specs.Parts.{Like};
 
 // Are the ends of a list's elements good: they don't fall, and the last one is the size of the joined bytes.
 pub fn ends_fit(size: usize, ends: &[usize]) -> bool

@@ -11,8 +11,9 @@ use Rattle.base_laws.specs.Base.{pick}
 use Rattle.write_forms.specs.Pieces.{Piece, bytes, head, encode, encodeAll, front}
 use Rattle.write_forms.specs.Draft.{wrapped}
 use Rattle.write_forms.specs.Outcome.{roomRefusal, refusal, size, buffer}
-use Rattle.write_pieces.specs.Put.{Put, Like, exact, beyond, cover, around}
-use Rattle.write_pieces.proofs.Puts.{then}
+use Rattle.base_copy.specs.Put.{Put}
+use Rattle.write_pieces.specs.Parts.{Like, exact, beyond, cover, around}
+use Rattle.base_copy.proofs.Puts.{then}
 use Rattle.write_pieces.proofs.Lengths.{like-exact, like-around}
 use Rattle.write_message.specs.Wrote.{wrote, Outcome}
 use Rattle.write_message.specs.declared.outcome.Wrote.{Wrote}

@@ -2,7 +2,7 @@
 ghost use mathlib.Core.Path.{_≡_};
 ghost use Rattle.base_laws.specs.Base;
 ghost use Rattle.write_forms.specs.Draft;
-ghost use Rattle.write_pieces.specs.Put.{stamp};
+ghost use Rattle.write_pieces.specs.Parts.{stamp};
 ghost use Rattle.write_message.specs.Fits;
 ghost use Rattle.write_message.specs.Fits.{memberIn, dateFits, momentFits};
 

@@ -9,8 +9,8 @@ use lib.Dec.{ltb, lit≤}
 use borrow.Author.Tests.{lt-ltb, le-ltb}
 use Rattle.base_laws.specs.Base.{pick}
 use Rattle.write_forms.specs.Pieces.{varintFrom, varint}
-use Rattle.write_pieces.specs.Put.{Put}
-use Rattle.write_pieces.proofs.Puts.{put-byte, Filling, fill-start, fill-more, fill-end}
+use Rattle.base_copy.specs.Put.{Put}
+use Rattle.base_copy.proofs.Puts.{put-byte, Filling, fill-start, fill-more, fill-end}
 
 -- the values of a varint of at most 1 + k bytes are below this
 unfoldable pub lim : ℕ → ℕ

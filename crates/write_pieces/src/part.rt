@@ -3,13 +3,14 @@ use crate::number::len_number;
 use crate::number::len_varint;
 use crate::number::put_number;
 use crate::number::put_varint;
-use base_copy::copy_into;
+use base_copy::put_raw;
 ghost use mathlib.Core.Path.{_≡_};
 ghost use Prim.Native.Nat.{ℕ, _+_, _≤_};
 ghost use lib.ListN.{length};
 ghost use Rattle.write_forms.specs.Pieces.{head, text, encode, front};
 ghost use Rattle.write_forms.specs.Draft.{time};
-ghost use Rattle.write_pieces.specs.Put.{Put, Like, timePiece, cover, stamp};
+ghost use Rattle.base_copy.specs.Put.{Put};
+ghost use Rattle.write_pieces.specs.Parts.{Like, timePiece, cover, stamp};
 
 // The tag and the length before n bytes of a field.
 pub fn len_head(f: u8, n: usize) -> usize
@@ -44,14 +45,6 @@ pub fn put_cover(out: &mut [u8], at: usize, f: u8, n: usize) -> usize
         return at;
     }
     put_head(out, at, f, n)
-}
-
-pub fn put_raw(out: &mut [u8], at: usize, d: &[u8]) -> usize
-    requires { ⌜ at + length (now d) ≤ length (now out) ⌝ }
-    ensures { λ r. ⌜ Put (now (out .entry)) at (now (d .entry)) (now (out .exit)) r ⌝ }
-{
-    copy_into(out, at, d);
-    at + d.len()
 }
 
 pub fn len_raw(d: &[u8]) -> usize

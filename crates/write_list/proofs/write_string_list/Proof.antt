@@ -1,6 +1,6 @@
 use Rattle.write_message.proofs.Outcomes.{same-outcome, same-wrapped}
 use Rattle.write_message.specs.Fits.{endsFit}
-use Rattle.write_pieces.specs.Put.{cover, around}
+use Rattle.write_pieces.specs.Parts.{cover, around}
 use Rattle.write_forms.specs.Pieces.{encode, packed}
 use mathlib.Core.List.{append-nil}
 use borrow.Author.Tests.{not-true}

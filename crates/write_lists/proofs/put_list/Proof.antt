@@ -1,5 +1,5 @@
 use Rattle.write_lists.proofs.Lists.{Listed, listed-room, listed-more, listed-end, elementsFrom, next-end}
-use Rattle.write_pieces.proofs.Puts.{fill-start}
+use Rattle.base_copy.proofs.Puts.{fill-start}
 use Rattle.base_laws.proofs.Parts.{length-part}
 use borrow.Author.Needs.{needs}
 use lib.ListN.{length, getD}

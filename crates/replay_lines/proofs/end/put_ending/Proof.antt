@@ -1,7 +1,7 @@
 use Rattle.replay_lines.specs.Ending.{ending}
 use borrow.Author.Tests.{eq-eqb, ne-eqb}
 use native.Mathlib.Omega.{arith}
-use Rattle.write_pieces.proofs.Puts.{then, nothing}
+use Rattle.base_copy.proofs.Puts.{then, nothing}
 use borrow.Author.Needs.{needs}
 use Rattle.replay_lines.proofs.end.put_ending.Statement.{statement}
 use Rattle.replay_lines.proofs.end.put_ending.Tie as tie

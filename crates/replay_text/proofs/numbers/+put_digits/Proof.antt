@@ -1,7 +1,7 @@
 use lib.ListN.{length-set}
 use Rattle.replay_text.specs.Words.{digits}
 use Rattle.replay_text.proofs.Digits.{digits-one, digits-more}
-use Rattle.write_pieces.proofs.Puts.{then, nothing, put-byte, put-length}
+use Rattle.base_copy.proofs.Puts.{then, nothing, put-byte, put-length}
 use native.Mathlib.Omega.{arith}
 use Prim.Native.Nat.{ℕ, _<_}
 use borrow.Fn.Kinds.{In, Out}

@@ -1,6 +1,6 @@
 use Rattle.write_message.proofs.Forms.{length-between, put-between}
 use Rattle.write_message.specs.Form.{firstPieces, middle, lastPieces, formPieces}
-use Rattle.write_pieces.specs.Put.{cover}
+use Rattle.write_pieces.specs.Parts.{cover}
 use Rattle.write_forms.specs.Pieces.{encodeAll}
 use lib.ListN.{length}
 use mathlib.Core.Path.{_≡_}

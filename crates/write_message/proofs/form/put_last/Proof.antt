@@ -1,4 +1,5 @@
-use Rattle.write_pieces.proofs.Puts.{then, end, Room, first, rest}
+use Rattle.base_copy.proofs.Puts.{then, end}
+use Rattle.write_pieces.proofs.Room.{Room, first, rest}
 use Rattle.write_message.specs.Form.{lastPieces}
 use borrow.Author.Needs.{needs}
 use Rattle.write_message.proofs.form.put_last.Statement.{statement}

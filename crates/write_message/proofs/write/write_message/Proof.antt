@@ -3,7 +3,7 @@ use Rattle.write_message.proofs.Outcomes.{run-refused, out-of-range, no
 use Rattle.write_message.proofs.Forms.{middle-least}
 use Rattle.write_message.specs.Form.{firstPieces, lastPieces, middle, formPieces}
 use Rattle.write_pieces.proofs.Lengths.{like-exact, like-within}
-use Rattle.write_pieces.specs.Put.{Like}
+use Rattle.write_pieces.specs.Parts.{Like}
 use Rattle.write_forms.specs.Pieces.{Piece, encodeAll}
 use Rattle.wire_message.specs.Message.{Bytes}
 use lib.ListN.{length}

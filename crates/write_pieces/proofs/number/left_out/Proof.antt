@@ -1,4 +1,4 @@
-use Rattle.write_pieces.specs.Put.{leftOut}
+use Rattle.write_pieces.specs.Parts.{leftOut}
 use Rattle.write_pieces.proofs.number.left_out.Statement.{statement}
 use Rattle.write_pieces.proofs.number.left_out.Tie as tie
 

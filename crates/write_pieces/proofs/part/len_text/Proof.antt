@@ -1,5 +1,5 @@
 use Rattle.write_pieces.proofs.Fields.{text-least, text-none, length-text}
-use Rattle.write_pieces.specs.Put.{exact, beyond}
+use Rattle.write_pieces.specs.Parts.{exact, beyond}
 use native.Mathlib.Omega.{arith}
 use lib.ListN.{length}
 use mathlib.Core.Path.{sym, ap}

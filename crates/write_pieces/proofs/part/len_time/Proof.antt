@@ -1,5 +1,5 @@
 use Rattle.write_pieces.proofs.Fields.{time-none, length-time}
-use Rattle.write_pieces.specs.Put.{stamp}
+use Rattle.write_pieces.specs.Parts.{stamp}
 use native.Mathlib.Omega.{arith}
 use borrow.Author.Needs.{needs}
 use Rattle.write_pieces.proofs.part.len_time.Statement.{statement}

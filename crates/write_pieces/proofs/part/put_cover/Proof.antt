@@ -1,5 +1,5 @@
 use Rattle.write_pieces.proofs.Fields.{cover-none, cover-some}
-use Rattle.write_pieces.proofs.Puts.{nothing}
+use Rattle.base_copy.proofs.Puts.{nothing}
 use native.Mathlib.Omega.{arith}
 use lib.ListN.{length}
 use mathlib.Core.Path.{ap}
