@@ -17,7 +17,9 @@ use Rattle.wire.specs.Read.{Reading, value, refused, clientMessage, received}
 use Rattle.session_entries.specs.Required.{entriesRefusal}
 use Rattle.file_format.specs.Record.{Record}
 use Rattle.file_format.specs.File.{limit, Records, all, none, recordsOf, FileKind, invalid, unfinished, finished, recordsKind, meets}
-use Rattle.session_turn.specs.Turn.{Turn, to, notNow, turn}
+use Rattle.session_turn.specs.Turn.{turn}
+use Rattle.session_turn.specs.declared.Turn.{Turn}
+use Rattle.session_turn.specs.declared.Turn.the-variants.{To, NotNow}
 use Rattle.session.specs.Step.{Outcome, moment, withinArea, lengthsFit, atMark, growthRefusal, refuse, roomFor, timed, entriesFirst, acceptStored, onAccept, onReject, exitStored, onExit, resumed, byKind, ofRecords, onRestart, act, inTurn, onReading, step, loggingPoint, pointIn, tick}
 use Rattle.session_turn.specs.declared.State.{State}
 use Rattle.session_turn.specs.declared.State.the-variants.{New, Greeted, Logging, EventsOnly, Closed}
@@ -149,8 +151,8 @@ module _ (se : Session) (area : Bytes) (used : ℕ) (Exits : Type 0) where
 
   of-turn : (u : Turn) (d : Bytes) (c : Client) → ((e : Exit) → c ≡ exitMsg e → se .state ≡ Logging → Exits) → Answered (inTurn se area used u d c)
   unfolding inTurn
-  of-turn (to st) d c x = of-act st d c x
-  of-turn notNow d c x = refuses 9 0 (omega arith) (omega arith)
+  of-turn (To st) d c x = of-act st d c x
+  of-turn NotNow d c x = refuses 9 0 (omega arith) (omega arith)
 
   of-reading : (d : Bytes) (r : Reading Client) → ReadNumbered r → ((e : Exit) → r ≡ value (exitMsg e) → se .state ≡ Logging → Exits)
       → Answered (onReading se area used d r)

@@ -16,7 +16,7 @@ use Rattle.wire.specs.Read.{value, clientMessage}
 use Rattle.file_format.specs.Record.{Record, recordBytes}
 use Rattle.file_format.specs.File.{recordsOf, fileBytes, total, fileKind}
 use Rattle.session.specs.Step.{Outcome, moment, acceptRecord, exitRecord, fromAccept, grown, carrying, withinArea, lengthsFit, atMark, refuse, taken, roomFor, step}
-use Rattle.session.specs.Answer.{mayOpen}
+use Rattle.session.proofs.Turns.{mayOpen}
 use Rattle.session_turn.specs.declared.State.{State}
 use Rattle.session_turn.specs.declared.State.the-variants.{New, Greeted, Logging, Closed}
 use Rattle.session.specs.declared.Session.{Session}

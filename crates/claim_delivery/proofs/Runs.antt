@@ -17,7 +17,7 @@ use Rattle.file_format.specs.File.{fileBytes, total}
 use Rattle.file_format.proofs.Records.{length-record}
 use Rattle.session.specs.Step as session
 use Rattle.session.specs.Step.{acceptRecord, exitRecord, loggingPoint, pointIn}
-use Rattle.session.specs.Answer.{mayOpen}
+use Rattle.session.proofs.Turns.{mayOpen}
 use Rattle.session_turn.specs.declared.State.{State}
 use Rattle.session_turn.specs.declared.State.the-variants.{New, Greeted, Logging, EventsOnly, Closed}
 use Rattle.session.specs.declared.Mark.{Mark}

@@ -16,12 +16,11 @@ use Rattle.file_format.specs.Record.{Record, recordBytes}
 use Rattle.file_format.specs.File.{all, recordsOf, fileBytes, limit, lowTotal, unfinished, finished, recordsKind, meets, keep}
 use Rattle.session_turn.specs.Turn.{opening, recording, greeting, ending, alerting, turn}
 use Rattle.session.specs.Step.{moment, acceptRecord, exitRecord, fromAccept, fromRestart, grown, ended, carrying, withinArea, lengthsFit, atMark, growthRefusal, refuse, taken, roomFor, stored, timed, acceptStored, exitStored, onExit, resumed, byKind, ofRecords, onRestart, act, inTurn, onReading, step}
-use Rattle.session.specs.Answer.{mayOpen}
 use Rattle.session_turn.specs.declared.State.{State}
 use Rattle.session_turn.specs.declared.State.the-variants.{New, Greeted, Logging, EventsOnly, Closed}
 use Rattle.session.specs.declared.Session.{Session}
 use Rattle.session.specs.declared.Point.the-variants as point
-use Rattle.session.proofs.Turns.{opens, accept-placed}
+use Rattle.session.proofs.Turns.{mayOpen, opens, accept-placed}
 use Rattle.claim_delivery.specs.Recording.{TimedRecord, io, window, suspend, Recording, recordOf, inRange, acceptOf, Valid}
 use Rattle.claim_delivery.specs.Sender.{Reads, member}
 use Rattle.wire.specs.Read.{received}
