@@ -1,6 +1,6 @@
 -- A session's points never fall: a tick's is at most the total, a record stored makes the total before it the next point, and a
 -- closed session stays closed.
-use Prim.Native.Nat.{ℕ, zero, suc, _+_, _≤_}
+use Prim.Native.Nat.{ℕ, zero, suc, _+_}
 use native.Mathlib.Omega.{arith}
 use mathlib.Core.Path.{_≡_, refl, sym, ap, subst, _∙_}
 use mathlib.Core.Logic.{_⊎_, inl, inr}
@@ -20,7 +20,7 @@ use Rattle.file_format.specs.File.{total}
 use Rattle.session_turn.specs.Turn.{opening, recording, greeting, ending, alerting, turn}
 use Rattle.session.specs.Step.{Outcome, exitRecord, grown, inState, lengthsFit, growthRefusal, roomFor, timed, exitStored, onExit, act, inTurn, onReading, step, loggingPoint, pointIn, tick}
 use Rattle.session_turn.specs.declared.State.{State}
-use Rattle.session_turn.specs.declared.State.the-variants.{New, Greeted, Logging, EventsOnly, Closed}
+use Rattle.session_turn.specs.declared.State.the-variants.{Logging, Closed}
 use Rattle.session.specs.declared.Session.{Session}
 use Rattle.session.specs.declared.Mark.the-variants as mark
 use Rattle.session.specs.declared.Point.{Point}
@@ -29,7 +29,7 @@ use Rattle.claim_agreement.specs.Calls.{Call, message, Host, answered, a
 use Rattle.claim_agreement.specs.Calls as call
 use Rattle.claim_agreement.specs.Agreement.{Agrees, Stands}
 use Rattle.claim_agreement.specs.Refusals.{Refused}
-use Rattle.claim_agreement.specs.Rising.{AtMost, Logs, Rising}
+use Rattle.claim_agreement.specs.Rising.{AtMost, Rising}
 use Rattle.claim_agreement.proofs.Answers.{never-at, refusals, no-point}
 use Rattle.claim_agreement.proofs.Steps.{call-stands}
 use Rattle.claim_agreement.proofs.Points.{tick-point, exits}
