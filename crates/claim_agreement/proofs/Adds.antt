@@ -14,14 +14,13 @@ use Rattle.wire.specs.Read.{value, clientMessage, received}
 use Rattle.file_format.specs.Record.{Record}
 use Rattle.file_format.specs.File.{fileBytes}
 use Rattle.session_turn.specs.Turn.{opening, recording, greeting, ending, alerting, turn}
-use Rattle.session.specs.Step.{Outcome, exitRecord, lengthsFit, growthRefusal, roomFor, timed, exitStored, onExit, act, inTurn, onReading, step}
+use Rattle.session.specs.Step.{Outcome, exitRecord, recordFor, lengthsFit, growthRefusal, roomFor, timed, exitStored, onExit, act, inTurn, onReading, step}
 use Rattle.session_turn.specs.declared.State.{State}
 use Rattle.session_turn.specs.declared.State.the-variants.{Logging}
 use Rattle.session.specs.declared.Session.{Session}
 use Rattle.session.proofs.Lengths.{within-area, lengths}
-use Rattle.claim_delivery.specs.Recording.{recordOf}
 use Rattle.claim_agreement.specs.Calls.{Host, answered}
-use Rattle.claim_agreement.specs.Agreement.{Agrees, added}
+use Rattle.claim_agreement.specs.Agreement.{Agrees}
 use Rattle.claim_agreement.proofs.Files.{file-more}
 
 module _ (h : Host) (logs : h .session .state ≡ Logging) (a : Agrees h) where
@@ -69,8 +68,8 @@ module _ (h : Host) (logs : h .session .state ≡ Logging) (a : Agrees h) where
   exit-adds-in e st q = rw q (exit-adds e)
 
   -- in its turn; all others are refused
-  logged : (c : Client) (d : Bytes) → Adds (added c) (inTurn se (h .area) (h .used) (turn Logging c) d c)
-  unfolding inTurn turn opening recording greeting ending alerting act added recordOf
+  logged : (c : Client) (d : Bytes) → Adds (recordFor d c) (inTurn se (h .area) (h .used) (turn Logging c) d c)
+  unfolding inTurn turn opening recording greeting ending alerting act recordFor
   logged (acceptMsg x) d = λ z. absurd (omega arith)
   logged (rejectMsg x) d = λ z. absurd (omega arith)
   logged (restartMsg x) d = λ z. absurd (omega arith)
@@ -81,12 +80,12 @@ module _ (h : Host) (logs : h .session .state ≡ Logging) (a : Agrees h) where
   logged (winsizeEvent w) d = timed-adds (windowFits w) _
   logged (suspendEvent x) d = timed-adds (suspendFits x) _
 
-  in-state : (c : Client) (d : Bytes) (st : State) → st ≡ Logging → Adds (added c) (inTurn se (h .area) (h .used) (turn st c) d c)
+  in-state : (c : Client) (d : Bytes) (st : State) → st ≡ Logging → Adds (recordFor d c) (inTurn se (h .area) (h .used) (turn st c) d c)
   in-state c d st q = rw q (logged c d)
 
-  pub adds : (s : Bytes) (c : Client) → clientMessage s ≡ value c → Adds (added c) (answered h s)
+  pub adds : (s : Bytes) (c : Client) → clientMessage s ≡ value c → Adds (recordFor (received s) c) (answered h s)
   unfolding step onReading
   adds s c reads =
-      picked (Adds (added c)) (leb (length s) 2097152) _ _
+      picked (Adds (recordFor (received s) c)) (leb (length s) 2097152) _ _
       (λ _. rw reads (in-state c (received s) (se .state) logs))
       (λ _ z. absurd (omega arith))

@@ -2,19 +2,14 @@
 use Prim.Native.Nat.{ℕ}
 use mathlib.Core.Path.{_≡_, refl, ap, _∙_}
 use mathlib.Core.List.{List, [], _∷_}
-use lib.ListN.{take, replicate}
+use lib.ListN.{take}
 use Rattle.wire_message.specs.Message.{Bytes}
 use Rattle.file_format.specs.File.{recordsOf}
 use Rattle.file_format.proofs.Reading.{records-of-file}
-use Rattle.session.specs.Step.{pointIn, tick}
 use Rattle.session_turn.specs.declared.State.{State}
-use Rattle.session_turn.specs.declared.State.the-variants.{New, Greeted, Logging, EventsOnly, Closed}
-use Rattle.session.specs.declared.Point.{Point}
-use Rattle.session.specs.declared.Point.the-variants as point
-use Rattle.claim_examples.proofs.Session.{examples}
+use Rattle.session_turn.specs.declared.State.the-variants.{Logging}
 use Rattle.claim_agreement.specs.Calls.{Call, Host, after, afterAll, begin}
-use Rattle.claim_agreement.specs.Agreement.{AreBytes, Agrees, InState, Stands, WholeFile, seven, Agreement}
-use Rattle.claim_agreement.proofs.Answers.{never-at}
+use Rattle.claim_agreement.specs.Agreement.{AreBytes, Agrees, InState, Stands, WholeFile, Agreement}
 use Rattle.claim_agreement.proofs.Files.{ranged}
 use Rattle.claim_agreement.proofs.Steps.{call-stands}
 use Rattle.claim_agreement.proofs.Adds.{adds}
@@ -41,19 +36,6 @@ in-logging h st e i = rw e at i
 begin-stands : (area : Bytes) (used : ℕ) → AreBytes (take used area) → Stands (begin area used)
 begin-stands area used bytes = record { are-bytes = bytes; no-point = refl }
 
--- a point is a session's in logging
-logs-by-point : (st : State) (p : Point) (t : ℕ) → pointIn st p ≡ point.At t → st ≡ Logging
-unfolding pointIn
-logs-by-point New p t e = absurd (never-at t e)
-logs-by-point Greeted p t e = absurd (never-at t e)
-logs-by-point Logging p t e = refl
-logs-by-point EventsOnly p t e = absurd (never-at t e)
-logs-by-point Closed p t e = absurd (never-at t e)
-
-seven-logs : afterAll (begin (replicate 160 0) 0) seven .session .state ≡ Logging
-unfolding after afterAll tick
-seven-logs = logs-by-point _ _ 1000000000 (examples .seven-fourth)
-
 pub agreement : Agreement
 agreement = record {
   begins = begin-stands;
@@ -61,5 +43,4 @@ agreement = record {
   holds = λ area used bytes cs logs.
       let h : Host = afterAll (begin area used) cs in
       whole-file h logs (in-logging h (h .session .state) logs (calls-stand (begin area used) cs (begin-stands area used bytes)));
-  reached = seven-logs;
 }

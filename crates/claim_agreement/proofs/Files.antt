@@ -9,7 +9,8 @@ use lib.ListN.{length, take, length-append}
 use lib.Seq.{length-take-le}
 use lib.Dec.{eqb}
 use borrow.Author.Tests.{le-leb, lt-ltb, eqb-true}
-use Rattle.base_laws.specs.Base.{pick, splice}
+use Rattle.base_laws.specs.Base.{pick, splice, All}
+use Rattle.base_laws.proofs.Lists.{all-append}
 use Rattle.wire_message.specs.Message.{Bytes}
 use Rattle.file_format.specs.Record.{Record, recordBytes, isTimed}
 use Rattle.file_format.specs.File as file
@@ -24,8 +25,6 @@ use Rattle.session.specs.Step.{acceptRecord, fromAccept, fromRestart, grown}
 use Rattle.session.specs.declared.Mark.{Mark}
 use Rattle.session.specs.declared.Session.{Session}
 use Rattle.session.specs.declared.Mark.the-variants as mark
-use Rattle.claim_delivery.specs.Recording.{All}
-use Rattle.claim_delivery.proofs.Files.{all-append}
 use Rattle.claim_agreement.specs.Calls.{Host, untilPositive}
 use Rattle.claim_agreement.specs.Agreement.{AreBytes, markOf, Agrees}
 

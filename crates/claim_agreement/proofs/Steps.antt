@@ -23,8 +23,8 @@ use Rattle.session_turn.specs.declared.State.the-variants.{New, Greeted, Loggin
 use Rattle.session.specs.declared.Session.{Session}
 use Rattle.session.proofs.Lengths.{within-area, lengths}
 use Rattle.session.proofs.Timed.{growth-fits}
-use Rattle.claim_delivery.specs.Recording.{TimedRecord, io, window, suspend, recordOf, inRange}
-use Rattle.claim_delivery.proofs.Values.{StorableTimed, timed-ranged, may-follow}
+use Rattle.claim_values.specs.Values.{TimedRecord, io, window, suspend, storedFor, timedInRange}
+use Rattle.claim_values.proofs.Stored.{StorableTimed, timed-ranged, may-follow}
 use Rattle.claim_agreement.specs.Calls.{Call, message, tick, behind, Host, untilPositive, afterTaken, afterMessage, left, over, withBehind, after}
 use Rattle.claim_agreement.specs.Agreement.{Agrees, Unopened, InState, Stands}
 use Rattle.wire.proofs.Promises.{Known, ReadKnown, message-known}
@@ -51,12 +51,12 @@ module _ (h : Host) where
 
   -- ---- a timed record in logging
 
-  timed-stands : (c : Client) (t : TimedRecord) (in-it : Bool) → (in-it ≡ true → inRange t ≡ true)
-      → afterTaken c (h .restartPoint) ≡ untilPositive (recordOf t .delay) (h .restartPoint) → Agrees h
-      → After c (timed se (h .area) (h .used) in-it (recordOf t))
+  timed-stands : (c : Client) (t : TimedRecord) (in-it : Bool) → (in-it ≡ true → timedInRange t ≡ true)
+      → afterTaken c (h .restartPoint) ≡ untilPositive (storedFor t .delay) (h .restartPoint) → Agrees h
+      → After c (timed se (h .area) (h .used) in-it (storedFor t))
   unfolding timed afterMessage
   timed-stands c t in-it ranges point a =
-      let r : Record = recordOf t in
+      let r : Record = storedFor t in
       picked (After c) (lengthsFit (length (h .area)) (h .used) (se .used)) _ _
       (λ l.
       picked (After c) in-it _ _
@@ -204,7 +204,7 @@ module _ (h : Host) where
   in-alerting r d Closed i = tt
 
   member-stands : (c : Client) (d : Bytes) → Known c → Stands h → After c (inTurn se (h .area) (h .used) (turn (se .state) c) d c)
-  unfolding turn act onReject recordOf inRange afterTaken
+  unfolding turn act onReject storedFor timedInRange afterTaken
   member-stands (acceptMsg a) d k i = in-opening (acceptMsg a) d _ (se .state) i (λ u. accept-stands a d u)
   member-stands (rejectMsg r) d k i = in-opening (rejectMsg r) d Closed (se .state) i (λ u. entries-stand (rejectMsg r) (reportFits r) _ _ _ tt)
   member-stands (exitMsg e) d k i = in-ending e d (se .state)

@@ -4,25 +4,24 @@
 use Prim.Native.Nat.{ℕ, _≤_, _<_}
 use mathlib.Core.Path.{_≡_}
 use mathlib.Core.Bool.{true}
-use mathlib.Core.List.{List, [], _∷_, _++_}
+use mathlib.Core.List.{List, _++_}
 use mathlib.Core.Option.{Option, none, some}
-use lib.ListN.{length, take, getD, replicate}
-use Rattle.wire_message.specs.Message.{Bytes, Exit, Client, acceptMsg, rejectMsg, exitMsg, restartMsg, alertMsg, ioBuf, winsizeEvent, suspendEvent, helloMsg}
-use Rattle.wire.specs.Read.{value, clientMessage}
+use lib.ListN.{length, take, getD}
+use Rattle.base_laws.specs.Base.{All}
+use Rattle.wire_message.specs.Message.{Bytes, Exit, Client, exitMsg}
+use Rattle.wire.specs.Read.{value, clientMessage, received}
 use Rattle.file_format.specs.Record.{Record}
 use Rattle.file_format.specs.File as file
 use Rattle.file_format.specs.File.{recordsOf, fileBytes, total, lowTotal, unfinished, finished, recordsKind}
 use Rattle.file_store.specs.Store.{fitsHeader}
 use Rattle.session.specs.Step as session
-use Rattle.session.specs.Step.{Outcome, exitRecord}
-use Rattle.claim_examples.specs.Session.{accept, ttyout}
+use Rattle.session.specs.Step.{Outcome, recordFor}
 use Rattle.session_turn.specs.declared.State.{State}
 use Rattle.session_turn.specs.declared.State.the-variants.{New, Greeted, Logging, EventsOnly, Closed}
 use Rattle.session.specs.declared.Mark.{Mark}
 use Rattle.session.specs.declared.Mark.the-variants as mark
 use Rattle.session.specs.declared.Point.the-variants as point
-use Rattle.claim_delivery.specs.Recording.{io, window, suspend, recordOf, All}
-use Rattle.claim_agreement.specs.Calls.{Call, message, Host, answered, after, afterAll, begin}
+use Rattle.claim_agreement.specs.Calls.{Call, Host, answered, after, afterAll, begin}
 
 abbrev pub AreBytes : Bytes → Type 0
 AreBytes s = (i : ℕ) → getD s i 0 < 256
@@ -67,20 +66,6 @@ InState Closed h = Unit {0}
 abbrev pub Stands : Host → Type 0
 Stands h = InState (h .session .state) h
 
--- ---- records. The request: "Every message accepted for storing adds exactly the record that document 01 gives."
-
--- what a member that is taken in logging adds
-unfoldable pub added : Client → List Record
-added (ioBuf k i) = recordOf (io k i) ∷ []
-added (winsizeEvent w) = recordOf (window w) ∷ []
-added (suspendEvent s) = recordOf (suspend s) ∷ []
-added (exitMsg e) = exitRecord e ∷ []
-added (alertMsg r) = []
-added (acceptMsg a) = []
-added (rejectMsg r) = []
-added (restartMsg r) = []
-added (helloMsg d) = []
-
 -- ---- commit points
 
 -- "the greatest total of a beginning of the file strictly below the present total, the empty beginning counting as 0"
@@ -102,35 +87,30 @@ pub record TickPoint (h : Host) (rs : List Record) : Type 0 where
   pub below : h .restartPoint ≡ none → 0 < total rs → (t : ℕ) × (session.tick (h .session) ≡ point.At t) × GreatestBelow t rs
 
 -- "an exit in logging answers with the present total, 0 for no timed records": it is also the total of the finished file
-pub record Exited (rs : List Record) (e : Exit) (o : Outcome) : Type 0 where
+pub record Exited (rs : List Record) (d : Bytes) (e : Exit) (o : Outcome) : Type 0 where
   pub answers : o .point ≡ point.At (total rs)
-  pub is-finished : recordsKind (rs ++ added (exitMsg e)) ≡ finished
-  pub same-total : total (rs ++ added (exitMsg e)) ≡ total rs
+  pub is-finished : recordsKind (rs ++ recordFor d (exitMsg e)) ≡ finished
+  pub same-total : total (rs ++ recordFor d (exitMsg e)) ≡ total rs
 
 -- ---- the statement
-
--- marked example 7: an accept, then delays of 1, 0, 0 and 2 s
-abbrev pub seven : List Call
-seven = message accept ∷ message (ttyout 1) ∷ message (ttyout 0) ∷ message (ttyout 0) ∷ message (ttyout 2) ∷ []
 
 -- of a host whose session is in logging
 pub record WholeFile (h : Host) : Type 0 where
   pub agrees : Agrees h
   -- the used bytes read as these records and no others
   pub reads-as : recordsOf (take (h .used) (h .area)) ≡ file.all (agrees .records)
-  -- what the next message adds, if it is taken
+  -- the request: "Every message accepted for storing adds exactly the record that document 01 gives." So of the next message, if it
+  -- is taken
   pub adds : (s : Bytes) (c : Client) → clientMessage s ≡ value c → answered h s .refusal ≡ 0
-      → take (answered h s .used) (answered h s .area) ≡ fileBytes (agrees .records ++ added c)
+      → take (answered h s .used) (answered h s .area) ≡ fileBytes (agrees .records ++ recordFor (received s) c)
   pub tick-point : TickPoint h (agrees .records)
-  pub exits : (s : Bytes) (e : Exit) → clientMessage s ≡ value (exitMsg e) → answered h s .refusal ≡ 0 → Exited (agrees .records) e (answered h s)
+  pub exits : (s : Bytes) (e : Exit) → clientMessage s ≡ value (exitMsg e) → answered h s .refusal ≡ 0 → Exited (agrees .records) (received s) e (answered h s)
 
 pub record Agreement : Type 0 where
   -- a new session, over any area and used length
   pub begins : (area : Bytes) (used : ℕ) → AreBytes (take used area) → Stands (begin area used)
   -- an accept and a restart that are taken give it, every other call keeps it
   pub keeps : (h : Host) (c : Call) → Stands h → Stands (after h c)
-  -- so after any list of calls
+  -- so after any list of calls; there are lists after which a session is in logging (`Logged` in crates/claim_examples/specs/Logged.antt)
   pub holds : (area : Bytes) (used : ℕ) → AreBytes (take used area) → (cs : List Call)
       → afterAll (begin area used) cs .session .state ≡ Logging → WholeFile (afterAll (begin area used) cs)
-  -- and there are lists after which a session is in logging
-  pub reached : afterAll (begin (replicate 160 0) 0) seven .session .state ≡ Logging

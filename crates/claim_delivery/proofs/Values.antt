@@ -1,46 +1,23 @@
--- A recording's values, where they can be stored: their records are in range, may follow and may end a file, and tell the values.
-use Prim.Native.Nat.{ℕ, suc, _+_, _*_, _%_, _≤_}
+-- A record tells its values: two timed records or exits, in range, for which the same is stored are the same.
+use Prim.Native.Nat.{ℕ, _+_, _*_, _≤_}
 use native.Mathlib.Omega.{arith}
 use mathlib.Core.Path.{_≡_, refl, ap, sym, _∙_}
 use mathlib.Core.Bool.{Bool, true, false}
-use mathlib.Core.List.{[], _++_, head-eq-of-cons-eq, tail-eq-of-cons-eq}
+use mathlib.Core.List.{_++_, head-eq-of-cons-eq, tail-eq-of-cons-eq}
 use lib.IntN.{ℤ, pos, negsuc}
-use lib.Dec.{leb}
-use lib.ListN.{length, take, drop, length-append}
+use lib.ListN.{length, take, drop}
 use lib.Seq.{take-at, drop-at}
-use borrow.Author.Tests.{leb-true, le-leb, eq-eqb, ne-eqb}
-use Rattle.base_laws.specs.Base.{pick, both}
-use Rattle.base_laws.proofs.Order.{both-true}
-use Rattle.wire_message.specs.Message.{Bytes, TimeSpec, Timed, WindowSize, Exit}
+use Rattle.base_laws.specs.Base.{pick}
+use Rattle.wire_message.specs.Message.{Bytes, TimeSpec, Timed, Exit}
 use Rattle.wire_range.specs.Range as g
-use Rattle.wire_range.specs.Limits.{upTo, sized, momentFits}
-use Rattle.wire_range.specs.Range.{ioFits, suspendFits}
+use Rattle.wire_range.specs.Limits.{upTo, momentFits}
 use Rattle.file_format.specs.Digits.{digits, value}
-use Rattle.file_format.specs.Record.{second, Record, windowBytes, exitBytes, isTimed, timedFits, exitDataFits}
-use Rattle.file_format.specs.File.{limit, timeOf, mayFollow, mayEnd}
+use Rattle.file_format.specs.Record.{second, Record, windowBytes, exitBytes}
 use Rattle.file_format.proofs.Numbers.{length-digits, value-digits}
-use Rattle.file_format.proofs.Records.{length-window}
-use Rattle.file_format.proofs.Reading.{InRange}
-use Rattle.session.specs.Step.{natural, moment, acceptRecord, exitRecord}
-use Rattle.session.proofs.Moments.{natural-most, moment-parts, moment-most, window-delay, window-rows, window-cols, exit-time, exit-value, exit-signal}
-use Rattle.claim_delivery.specs.Recording.{TimedRecord, io, window, suspend, Recording, recordOf, time, inRange, All, Valid}
-
--- ---- what can be stored
-
--- the header's length goes so far
-abbrev pub Small : Record → Type 0
-Small r = length (r .contents) ≤ 2097152
-
-pub record StorableTimed (t : TimedRecord) : Type 0 where
-  pub in-range : inRange t ≡ true
-  pub small : Small (recordOf t)
-
--- a valid recording whose data are not too long: those that some messages say (Sizes)
-pub record Storable (R : Recording) : Type 0 where
-  pub valid : Valid R
-  pub accept-small : Small (acceptRecord (R .accept))
-  pub timed-storable : All StorableTimed (R .timed)
-  pub exit-small : Small (exitRecord (R .exit))
+use Rattle.session.specs.Step.{natural, moment, exitRecord}
+use Rattle.session.proofs.Moments.{natural-most, moment-parts}
+use Rattle.claim_values.specs.Values.{TimedRecord, io, window, suspend, storedFor, timedInRange}
+use Rattle.claim_values.proofs.Stored.{StorableTimed, io-in, window-in, suspend-in, exit-in}
 
 -- ---- numbers and moments
 
@@ -101,96 +78,14 @@ exit-same v w a b s t x y h k e =
     let r = append-same s x t y (f .1) (tail-eq-of-cons-eq (tail-eq-of-cons-eq e)) in
     record { values = head-eq-of-cons-eq e; cores = f .0; signals = r .0; errors = r .1 }
 
--- ---- timed records
-
--- a timed record's ranges, one by one
-io-in : (k : ℕ) (i : Timed) → inRange (io k i) ≡ true → (6 ≤ k) × (k ≤ 10) × (momentFits (i .delay) ≡ true)
-unfolding inRange ioFits
-io-in k i e =
-    let p = both-true (both (leb 6 k) (leb k 10)) (momentFits (i .delay)) e in
-    let q = both-true (leb 6 k) (leb k 10) (p .0) in
-    (leb-true 6 k (q .0), leb-true k 10 (q .1), p .1)
-
-window-in : (w : WindowSize) → inRange (window w) ≡ true → (momentFits (w .delay) ≡ true) × (upTo 65535 (w .rows) ≡ true) × (upTo 65535 (w .cols) ≡ true)
-unfolding inRange
-window-in w e = (window-delay w e, window-rows w e, window-cols w e)
-
-suspend-in : (s : Timed) → inRange (suspend s) ≡ true → (momentFits (s .delay) ≡ true) × (both (leb 1 (length (s .contents))) (leb (length (s .contents)) 127) ≡ true)
-unfolding inRange suspendFits sized
-suspend-in s e = both-true (momentFits (s .delay)) (sized 1 127 (s .contents)) e
-
--- what its record is
-pub record Stored (r : Record) : Type 0 where
-  pub from : 6 ≤ r .kind
-  pub to : r .kind ≤ 12
-  pub fits : timedFits (r .kind) (length (r .contents)) ≡ true
-  pub most : r .delay ≤ limit
-
-pub stored : (t : TimedRecord) → inRange t ≡ true → Stored (recordOf t)
-unfolding recordOf timedFits
-stored (io k i) e =
-    let p = io-in k i e in
-    let lo : 6 ≤ k = p .0 in
-    let hi : k ≤ 10 = p .1 in
-    record { from = lo; to = omega arith; fits = rw (ne-eqb k 11 (λ z. omega arith), ne-eqb k 12 (λ z. omega arith)); most = moment-most (i .delay) (p .2) }
-stored (window w) e =
-    let p = window-in w e in
-    record { from = omega arith; to = omega arith; fits = eq-eqb (length (windowBytes (natural (w .rows)) (natural (w .cols)))) 4 (length-window (natural (w .rows)) (natural (w .cols))); most = moment-most (w .delay) (p .0) }
-stored (suspend s) e =
-    let p = suspend-in s e in
-    record { from = omega arith; to = omega arith; fits = p .1; most = moment-most (s .delay) (p .0) }
-
-pub timed-ranged : (t : TimedRecord) → StorableTimed t → InRange (recordOf t)
-timed-ranged t v =
-    let s = stored t (v .in-range) in
-    record { kind-fits = omega (arith, s .to); delay-fits = s .most; contents-fit = v .small }
-
-timed-kind : (r : Record) → Stored r → isTimed (r .kind) ≡ true
-unfolding isTimed
-timed-kind r s = rw (le-leb 6 (r .kind) (s .from), le-leb (r .kind) 12 (s .to))
-
--- its time is its delay
-pub time-is : (t : TimedRecord) → StorableTimed t → time t ≡ recordOf t .delay
-unfolding timeOf
-time-is t v = rw (timed-kind (recordOf t) (stored t (v .in-range)))
-
-pub may-follow : (sum : ℕ) (t : TimedRecord) → StorableTimed t → sum + recordOf t .delay ≤ limit → mayFollow sum (recordOf t .kind) (recordOf t .delay) (length (recordOf t .contents)) ≡ true
-unfolding mayFollow
-may-follow sum t v h =
-    let s = stored t (v .in-range) in
-    rw (timed-kind (recordOf t) s, s .fits, le-leb (sum + recordOf t .delay) limit h)
-
--- ---- the exit
-
-exit-in : (e : Exit) → g.exitFits e ≡ true → (momentFits (e .runTime) ≡ true) × (upTo 255 (e .exitValue) ≡ true) × (length (e .signal) ≤ 127)
-exit-in e h = (exit-time e h, exit-value e h, exit-signal e h)
-
-pub exit-ranged : (e : Exit) → g.exitFits e ≡ true → Small (exitRecord e) → InRange (exitRecord e)
-exit-ranged e h s = record { kind-fits = omega arith; delay-fits = moment-most (e .runTime) (exit-in e h .0); contents-fit = s }
-
-low-bits : (b : Bool) (n : ℕ) → n ≤ 127 → (pick b 128 0 + n) % 128 ≡ n
-low-bits true n h = omega arith
-low-bits false n h = omega arith
-
-pub may-end : (e : Exit) → g.exitFits e ≡ true → mayEnd (exitRecord e) [] ≡ true
-unfolding mayEnd exitBytes exitDataFits
-may-end e h =
-    let l : length (e .signal) ≤ 127 = exit-in e h .2 in
-    let a = length-append (e .signal) (e .error) in
-    rw (
-      low-bits (e .dumpedCore) (length (e .signal)) l,
-      le-leb 2 (suc (suc (length (e .signal ++ e .error)))) (omega arith),
-      le-leb (2 + length (e .signal)) (suc (suc (length (e .signal ++ e .error)))) (omega arith),
-    )
-
 -- ---- a record tells its values
 
 timed-same : (a b : Timed) → momentFits (a .delay) ≡ true → momentFits (b .delay) ≡ true → moment (a .delay) ≡ moment (b .delay) → a .contents ≡ b .contents → a ≡ b
 timed-same a b p q d c = let x = moment-same (a .delay) (b .delay) p q d in λ i. record { delay = x i; contents = c i }
 
-record-same : (t u : TimedRecord) → inRange t ≡ true → inRange u ≡ true → recordOf t .kind ≡ recordOf u .kind → recordOf t .delay ≡ recordOf u .delay
-    → recordOf t .contents ≡ recordOf u .contents → t ≡ u
-unfolding recordOf
+record-same : (t u : TimedRecord) → timedInRange t ≡ true → timedInRange u ≡ true → storedFor t .kind ≡ storedFor u .kind → storedFor t .delay ≡ storedFor u .delay
+    → storedFor t .contents ≡ storedFor u .contents → t ≡ u
+unfolding storedFor
 record-same (io k i) (io l j) p q e d c = let x = timed-same i j (io-in k i p .2) (io-in l j q .2) d c in λ y. io (e y) (x y)
 record-same (io k i) (window w) p q e d c = let h = io-in k i p .1 in absurd (omega arith)
 record-same (io k i) (suspend s) p q e d c = let h = io-in k i p .1 in absurd (omega arith)
@@ -209,7 +104,7 @@ record-same (suspend s) (io l j) p q e d c = let h = io-in l j q .1 in absurd (o
 record-same (suspend s) (window w) p q e d c = absurd (omega arith)
 record-same (suspend s) (suspend r) p q e d c = ap suspend (timed-same s r (suspend-in s p .0) (suspend-in r q .0) d c)
 
-pub same-timed : (t u : TimedRecord) → StorableTimed t → StorableTimed u → recordOf t ≡ recordOf u → t ≡ u
+pub same-timed : (t u : TimedRecord) → StorableTimed t → StorableTimed u → storedFor t ≡ storedFor u → t ≡ u
 same-timed t u v w e =
     record-same t u (v .in-range) (w .in-range) (ap (λ (r : Record). r .kind) e) (ap (λ (r : Record). r .delay) e) (ap (λ (r : Record). r .contents) e)
 
