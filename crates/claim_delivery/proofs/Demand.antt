@@ -15,11 +15,11 @@ use Rattle.file_format.proofs.Reading.{file-injective}
 use Rattle.session.specs.Step.{exitRecord}
 use Rattle.claim_values.specs.Values.{TimedRecord, storedFor}
 use Rattle.claim_values.proofs.Stored.{StorableTimed}
+use Rattle.claim_values.proofs.Back.{same-timed, same-exit}
 use Rattle.claim_delivery.specs.Recording.{Recording, records}
 use Rattle.claim_delivery.specs.Host.{carries}
 use Rattle.claim_delivery.specs.World.{World, fresh, file}
 use Rattle.claim_delivery.specs.Demand.{Delivery, end, Carries, Demand3}
-use Rattle.claim_delivery.proofs.Values.{same-timed, same-exit}
 use Rattle.claim_delivery.proofs.Files.{Storable, all-ranged, carries-none, carries-is}
 use Rattle.claim_delivery.proofs.Reached.{Came, unopened, opened, came, reached}
 
@@ -38,7 +38,7 @@ timed-same [] [] v w e = refl
 timed-same [] (u ∷ us) v w e = absurd (nil≢cons e)
 timed-same (t ∷ ts) [] v w e = absurd (cons≢nil e)
 timed-same (t ∷ ts) (u ∷ us) v w e =
-    let h : t ≡ u = same-timed t u (v .0) (w .0) (head-eq-of-cons-eq e) in
+    let h : t ≡ u = same-timed t u (v .0 .in-range) (w .0 .in-range) (head-eq-of-cons-eq e) in
     let r : ts ≡ us = timed-same ts us (v .1) (w .1) (tail-eq-of-cons-eq e) in
     λ i. h i ∷ r i
 
