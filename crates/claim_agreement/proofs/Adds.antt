@@ -28,7 +28,7 @@ module _ (h : Host) (logs : h .session .state ≡ Logging) (a : Agrees h) where
   se = h .session
 
   abbrev Adds : List Record → Outcome → Type 0
-  Adds qs o = o .refusal ≡ 0 → take (o .used) (o .area) ≡ fileBytes (a .records ++ qs)
+  Adds qs o = o .refusal ≡ 0 → take (o .used) (o .area) ≡ fileBytes (a .holds .records ++ qs)
 
   within : lengthsFit (length (h .area)) (h .used) (se .used) ≡ true → h .used ≤ length (h .area)
   within l = within-area (length (h .area)) (h .used) (lengths (length (h .area)) (h .used) (se .used) l .0) .1
@@ -43,7 +43,7 @@ module _ (h : Host) (logs : h .session .state ≡ Logging) (a : Agrees h) where
       picked (Adds (r ∷ [])) (eqb (growthRefusal se (r .delay)) 0) _ _
       (λ _.
       picked (Adds (r ∷ [])) (roomFor se (h .area) (h .used) r) _ _
-      (λ _ _. file-more h a r (within l))
+      (λ _ _. file-more (h .area) (h .used) (a .holds) r (within l))
       (λ _ z. absurd (omega arith)))
       (λ n z. absurd (eqb-false (growthRefusal se (r .delay)) 0 n z)))
       (λ _ z. absurd (omega arith)))
@@ -58,7 +58,7 @@ module _ (h : Host) (logs : h .session .state ≡ Logging) (a : Agrees h) where
       picked (Adds (r ∷ [])) (exitFits e) _ _
       (λ _.
       picked (Adds (r ∷ [])) (roomFor se (h .area) (h .used) r) _ _
-      (λ _ _. file-more h a r (within l))
+      (λ _ _. file-more (h .area) (h .used) (a .holds) r (within l))
       (λ _ z. absurd (omega arith)))
       (λ _ z. absurd (omega arith)))
       (λ _ z. absurd (omega arith))
@@ -75,7 +75,7 @@ module _ (h : Host) (logs : h .session .state ≡ Logging) (a : Agrees h) where
   logged (restartMsg x) d = λ z. absurd (omega arith)
   logged (helloMsg x) d = λ z. absurd (omega arith)
   logged (exitMsg e) d = exit-adds-in e (se .state) logs
-  logged (alertMsg x) d = picked (Adds []) (reportFits x) _ _ (λ _ _. a .used-bytes ∙ ap fileBytes (sym (append-nil (a .records)))) (λ _ z. absurd (omega arith))
+  logged (alertMsg x) d = picked (Adds []) (reportFits x) _ _ (λ _ _. a .holds .used-bytes ∙ ap fileBytes (sym (append-nil (a .holds .records)))) (λ _ z. absurd (omega arith))
   logged (ioBuf k i) d = timed-adds (ioFits i) _
   logged (winsizeEvent w) d = timed-adds (windowFits w) _
   logged (suspendEvent x) d = timed-adds (suspendFits x) _

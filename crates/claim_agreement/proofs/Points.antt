@@ -42,7 +42,7 @@ low-greatest rs h =
 
 module _ (h : Host) (logs : h .session .state ≡ Logging) (a : Agrees h) where
   abbrev rs : List Record
-  rs = a .records
+  rs = a .holds .records
 
   -- ---- a tick
 
@@ -51,9 +51,9 @@ module _ (h : Host) (logs : h .session .state ≡ Logging) (a : Agrees h) where
   unfolding tick pointIn
   tick-is T e =
       ap (λ (st : State). pointIn st (loggingPoint (h .session .mark) (h .session .total) (h .session .low))) logs
-      ∙ ap (λ (m : Mark). loggingPoint m (h .session .total) (h .session .low)) (a .carries-point ∙ ap markOf e)
-      ∙ ap (λ (n : ℕ). loggingPoint (markOf T) n (h .session .low)) (a .carries-total)
-      ∙ ap (loggingPoint (markOf T) (total rs)) (a .carries-low)
+      ∙ ap (λ (m : Mark). loggingPoint m (h .session .total) (h .session .low)) (a .carries .carries-point ∙ ap markOf e)
+      ∙ ap (λ (n : ℕ). loggingPoint (markOf T) n (h .session .low)) (a .carries .carries-total)
+      ∙ ap (loggingPoint (markOf T) (total rs)) (a .carries .carries-low)
 
   pub tick-point : TickPoint h rs
   unfolding markOf loggingPoint
@@ -79,8 +79,8 @@ module _ (h : Host) (logs : h .session .state ≡ Logging) (a : Agrees h) where
         (λ f.
         picked Taken (roomFor (h .session) (h .area) (h .used) r) _ _
         (λ _ _. record {
-          answers = ap point.At (a .carries-total);
-          is-finished = kind-exit rs r (a .is-unfinished) (may-end e f);
+          answers = ap point.At (a .carries .carries-total);
+          is-finished = kind-exit rs r (a .carries .is-unfinished) (may-end e f);
           same-total = omega (arith, total-snoc rs r, exit-time r (may-end e f));
         })
         (λ _ z. absurd (omega arith)))
