@@ -16,7 +16,8 @@ use Rattle.file_format.proofs.Appends.{snoc, file-append, file-snoc, file-store
 use Rattle.file_format.proofs.Restarts.{keep-area}
 use Rattle.file_format.proofs.Beginnings.{meets-yes}
 use Rattle.session.specs.Step.{acceptRecord, exitRecord}
-use Rattle.claim_delivery.specs.Recording.{TimedRecord, Recording, recordOf, records, totalOf}
+use Rattle.claim_values.specs.Values.{TimedRecord, storedFor}
+use Rattle.claim_delivery.specs.Recording.{Recording, records, totalOf}
 use Rattle.claim_delivery.proofs.Totals.{kept, later, kept-later, keep-is}
 use Rattle.claim_delivery.proofs.Files.{map-append, begun, first, split-records, beginning-short}
 
@@ -79,12 +80,12 @@ size-next R n r area used x fits l = length-splice area used (recordBytes r) (om
 
 pub next-accept : (R : Recording) → Next R 0 (acceptRecord (R .accept))
 unfolding records
-next-accept R = record { post = map recordOf (R .timed) ++ (exitRecord (R .exit) ∷ []); joined = refl }
+next-accept R = record { post = map storedFor (R .timed) ++ (exitRecord (R .exit) ∷ []); joined = refl }
 
-pub next-timed : (R : Recording) (n : ℕ) (xs ys : List TimedRecord) (t : TimedRecord) → xs ++ t ∷ ys ≡ R .timed → n ≡ suc (length xs) → Next R n (recordOf t)
+pub next-timed : (R : Recording) (n : ℕ) (xs ys : List TimedRecord) (t : TimedRecord) → xs ++ t ∷ ys ≡ R .timed → n ≡ suc (length xs) → Next R n (storedFor t)
 next-timed R n xs ys t e k = record {
-  post = map recordOf ys ++ (exitRecord (R .exit) ∷ []);
-  joined = ap (λ (l : List Record). l ++ recordOf t ∷ (map recordOf ys ++ (exitRecord (R .exit) ∷ []))) (ap (λ (j : ℕ). take j (records R)) k ∙ first R xs (t ∷ ys) e)
+  post = map storedFor ys ++ (exitRecord (R .exit) ∷ []);
+  joined = ap (λ (l : List Record). l ++ storedFor t ∷ (map storedFor ys ++ (exitRecord (R .exit) ∷ []))) (ap (λ (j : ℕ). take j (records R)) k ∙ first R xs (t ∷ ys) e)
       ∙ sym (split-records R xs (t ∷ ys) e);
 }
 
@@ -110,7 +111,7 @@ unfolding total
 meets-begun R T xs h =
     ap (λ (l : List TimedRecord). meets T 0 (begun R l)) (sym (kept-later 0 T xs))
     ∙ ap (λ (l : List Record). meets T 0 (acceptRecord (R .accept) ∷ l)) (map-append (kept 0 T xs) (later 0 T xs))
-    ∙ meets-yes T (begun R (kept 0 T xs)) (map recordOf (later 0 T xs)) (omega (arith, accept-time (R .accept)))
+    ∙ meets-yes T (begun R (kept 0 T xs)) (map storedFor (later 0 T xs)) (omega (arith, accept-time (R .accept)))
 
 -- the used bytes after it
 pub lies-kept : (R : Recording) (T : ℕ) (xs ks : List TimedRecord) (area : Bytes) (used : ℕ) → kept 0 T xs ≡ ks → take (suc (length ks)) (records R) ≡ begun R ks

@@ -9,7 +9,8 @@ use mathlib.Core.List.{List, [], _∷_, _++_, append-assoc, append-nil, head-eq-
 use lib.Dec.{eqb}
 use lib.ListN.{length, take, length-append}
 use borrow.Author.Tests.{eq-eqb, ne-eqb, eqb-true, eqb-false}
-use Rattle.base_laws.specs.Base.{pick, both, splice}
+use Rattle.base_laws.specs.Base.{pick, both, splice, All}
+use Rattle.base_laws.proofs.Lists.{all-append, all-right, all-map}
 use Rattle.wire_message.specs.Message.{Bytes, Restart, Client, acceptMsg, rejectMsg, exitMsg, restartMsg, alertMsg, ioBuf, winsizeEvent, suspendEvent, helloMsg}
 use Rattle.wire_range.specs.Range.{restartFits}
 use Rattle.wire.specs.Read.{value, clientMessage}
@@ -24,13 +25,14 @@ use Rattle.session.specs.declared.Mark.{Mark}
 use Rattle.session.specs.declared.Mark.the-variants as mark
 use Rattle.session.specs.declared.Point.{Point}
 use Rattle.session.specs.declared.Point.the-variants as point
-use Rattle.claim_delivery.specs.Recording.{TimedRecord, io, window, suspend, Recording, recordOf, records, time, totalOf, All, acceptOf}
-use Rattle.claim_delivery.specs.Sender.{Sent, hello, accept, restart, timed, exit, rest, Reads, Says, Lines, member}
+use Rattle.claim_values.specs.Values.{TimedRecord, io, window, suspend, storedFor, timedMember}
+use Rattle.claim_values.proofs.Stored.{StorableTimed, time-is}
+use Rattle.claim_delivery.specs.Recording.{Recording, records, time, totalOf, acceptOf}
+use Rattle.claim_delivery.specs.Sender.{Sent, hello, accept, restart, timed, exit, rest, Reads, Says, Lines}
 use Rattle.claim_delivery.specs.Host.{countedMember, counted, booked, WholeRestart, carries, notedMember, noted, Answer, toTick, toMessage, Desk, hand, handAll}
 use Rattle.claim_delivery.specs.World.{isPoint, stoppedAfter}
 use Rattle.claim_delivery.proofs.Totals.{kept, later, kept-later, atMost-is, kept-beginning, kept-exact, HeadLater, later-head}
-use Rattle.claim_delivery.proofs.Values.{StorableTimed, Storable, time-is}
-use Rattle.claim_delivery.proofs.Files.{all-append, all-right, all-map, total-of-append, begun, first, size, Count, nothing, some-of, whole, count, beginning-short, begun-unfinished, read-begun, whole-finished, read-whole, carries-is}
+use Rattle.claim_delivery.proofs.Files.{Storable, total-of-append, begun, first, size, Count, nothing, some-of, whole, count, beginning-short, begun-unfinished, read-begun, whole-finished, read-whole, carries-is}
 use Rattle.claim_delivery.proofs.Areas.{Lies, Next, next-below, next-room, lies-next, size-next, next-accept, next-timed, next-exit, meets-begun, lies-kept}
 use Rattle.claim_delivery.proofs.Steps.{within-area, lengths-fit, room-for, step-hello, step-accept, step-timed, step-exit, step-restart, resumes, step-finished, step-closed}
 
@@ -137,41 +139,41 @@ pub record Inv (R : Recording) (c : ℕ) (p : Option ℕ) (ms : List Sent) (d : 
 -- ---- a timed record
 
 -- one with delay zero is never sent at a restart point
-not-at-mark : (R : Recording) (n : ℕ) (se : Session) (t : TimedRecord) (ys : List TimedRecord) (m : Mark) → time t ≡ recordOf t .delay
-    → MarkOk R n (t ∷ ys) (se .total) (se .low) m → both (eqb (recordOf t .delay) 0) (atMark m (se .total)) ≡ false
+not-at-mark : (R : Recording) (n : ℕ) (se : Session) (t : TimedRecord) (ys : List TimedRecord) (m : Mark) → time t ≡ storedFor t .delay
+    → MarkOk R n (t ∷ ys) (se .total) (se .low) m → both (eqb (storedFor t .delay) 0) (atMark m (se .total)) ≡ false
 unfolding atMark
-not-at-mark R n se t ys mark.Nothing h k = go (eqb (recordOf t .delay) 0)
+not-at-mark R n se t ys mark.Nothing h k = go (eqb (storedFor t .delay) 0)
   where
     go : (b : Bool) → both b false ≡ false
     go true = refl
     go false = refl
-not-at-mark R n se t ys (mark.At T) h k = rw (ne-eqb (recordOf t .delay) 0 (λ e. let z = k .1 in omega arith))
+not-at-mark R n se t ys (mark.At T) h k = rw (ne-eqb (storedFor t .delay) 0 (λ e. let z = k .1 in omega arith))
 
 -- the marks after it
 module _ (R : Recording) (n : ℕ) (se : Session) (t : TimedRecord) (xs ys : List TimedRecord) (split : xs ++ t ∷ ys ≡ R .timed) (n-is : n ≡ suc (length xs))
-    (total-is : se .total ≡ totalOf xs) (delay-is : time t ≡ recordOf t .delay) where
-  pub total-after : se .total + recordOf t .delay ≡ totalOf (xs ++ (t ∷ []))
+    (total-is : se .total ≡ totalOf xs) (delay-is : time t ≡ storedFor t .delay) where
+  pub total-after : se .total + storedFor t .delay ≡ totalOf (xs ++ (t ∷ []))
   unfolding total
   total-after = omega (arith, total-of-append xs (t ∷ []))
 
-  kept-all : 0 < recordOf t .delay → kept 0 (se .total) (R .timed) ≡ xs
+  kept-all : 0 < storedFor t .delay → kept 0 (se .total) (R .timed) ≡ xs
   kept-all h =
       ap (λ (k : ℕ). kept 0 k (R .timed)) (total-is ∙ zero-plus (totalOf xs)) ∙ ap (kept 0 (0 + totalOf xs)) (sym split) ∙ kept-exact 0 xs t ys (omega arith)
     where
       zero-plus : (a : ℕ) → a ≡ 0 + a
       zero-plus a = omega arith
 
-  marks-after : MarkOk R n (t ∷ ys) (se .total) (se .low) (se .mark) → (b : Bool) → eqb (recordOf t .delay) 0 ≡ b
-      → MarkOk R (suc n) ys (se .total + recordOf t .delay) (pick b (se .low) (se .total)) (pick b (se .mark) mark.Nothing)
+  marks-after : MarkOk R n (t ∷ ys) (se .total) (se .low) (se .mark) → (b : Bool) → eqb (storedFor t .delay) 0 ≡ b
+      → MarkOk R (suc n) ys (se .total + storedFor t .delay) (pick b (se .low) (se .total)) (pick b (se .mark) mark.Nothing)
   unfolding total
-  marks-after m true e = still (se .mark) (eqb-true (recordOf t .delay) 0 e) m
+  marks-after m true e = still (se .mark) (eqb-true (storedFor t .delay) 0 e) m
     where
-      still : (x : Mark) → recordOf t .delay ≡ 0 → MarkOk R n (t ∷ ys) (se .total) (se .low) x → MarkOk R (suc n) ys (se .total + recordOf t .delay) (se .low) x
+      still : (x : Mark) → storedFor t .delay ≡ 0 → MarkOk R n (t ∷ ys) (se .total) (se .low) x → MarkOk R (suc n) ys (se .total + storedFor t .delay) (se .low) x
       still mark.Nothing z h = λ pos. good-more (suc n) (omega arith) (h (omega arith))
       still (mark.At T) z h = absurd (let k = h .1 in omega arith)
   marks-after m false e =
-      let z : recordOf t .delay ≡ 0 → ⊥ = eqb-false (recordOf t .delay) 0 e in
-      let pos : 0 < recordOf t .delay = omega arith in
+      let z : storedFor t .delay ≡ 0 → ⊥ = eqb-false (storedFor t .delay) 0 e in
+      let pos : 0 < storedFor t .delay = omega arith in
       λ h. record {
         reached = ap totalOf (kept-all pos) ∙ sym total-is;
         held = omega (arith, ap length (kept-all pos));
@@ -179,26 +181,26 @@ module _ (R : Recording) (n : ℕ) (se : Session) (t : TimedRecord) (xs ys : Lis
       }
 
 -- in the book and in the log
-counts-timed : (R : Recording) (t : TimedRecord) (n : ℕ) → countedMember R (member t) n ≡ suc n
-unfolding countedMember member
+counts-timed : (R : Recording) (t : TimedRecord) (n : ℕ) → countedMember R (timedMember t) n ≡ suc n
+unfolding countedMember timedMember
 counts-timed R (io k i) n = refl
 counts-timed R (window w) n = refl
 counts-timed R (suspend x) n = refl
 
-notes-timed : (t : TimedRecord) (w : WholeRestart) → notedMember (member t) w ≡ []
-unfolding notedMember member
+notes-timed : (t : TimedRecord) (w : WholeRestart) → notedMember (timedMember t) w ≡ []
+unfolding notedMember timedMember
 notes-timed (io k i) w = refl
 notes-timed (window x) w = refl
 notes-timed (suspend x) w = refl
 
 -- ---- one message
 
--- whatever the sender says reads as some member
+-- whatever the sender says reads as some timedMember
 pub reads-some : (s : Bytes) (m : Sent) → Says s m → (c : Client) × Reads s c
 reads-some s hello y = (helloMsg (y .0), y .1)
 reads-some s (accept a) y = (_, y .0)
 reads-some s (restart T) y = (restartMsg (y .values), y .reads)
-reads-some s (timed t) y = (member t, y)
+reads-some s (timed t) y = (timedMember t, y)
 reads-some s (exit e) y = (exitMsg e, y)
 
 module _ (R : Recording) (storable : Storable R) (c : ℕ) (fits : length (fileBytes (records R)) ≤ c) (small : c ≤ 1073741824) where
@@ -301,14 +303,14 @@ module _ (R : Recording) (storable : Storable R) (c : ℕ) (fits : length (fileB
         let xs : List TimedRecord = l .stored-ones in
         let split : xs ++ t ∷ ys ≡ R .timed = ap (λ (z : List TimedRecord). xs ++ z) (sym e) ∙ l .split in
         let v : StorableTimed t = all-right StorableTimed xs (t ∷ ys) (rw split (storable .timed-storable)) .0 in
-        let x : Next R (d .n) (recordOf t) = next-timed R (d .n) xs ys t split (l .n-is) in
-        let delay : time t ≡ recordOf t .delay = time-is t v in
+        let x : Next R (d .n) (storedFor t) = next-timed R (d .n) xs ys t split (l .n-is) in
+        let delay : time t ≡ storedFor t .delay = time-is t v in
         let sums : totalOf xs + (time t + totalOf ys) ≡ totalOf (R .timed) = sym (total-of-append xs (t ∷ ys)) ∙ ap totalOf split in
         let marks : MarkOk R (d .n) (t ∷ ys) (d .session .total) (d .session .low) (d .session .mark) = rw e at (l .mark-ok) in
-        let after-it = marks-after R (d .n) (d .session) t xs ys split (l .n-is) (l .total-is) delay marks (eqb (recordOf t .delay) 0) refl in
-        stored-to (member t) (recordOf t) (grown (d .session) (d .used + length (recordBytes (recordOf t))) (recordOf t .delay)) point.Absent (y .read) x (counts-timed R t (d .n)) (notes-timed t)
+        let after-it = marks-after R (d .n) (d .session) t xs ys split (l .n-is) (l .total-is) delay marks (eqb (storedFor t .delay) 0) refl in
+        stored-to (timedMember t) (storedFor t) (grown (d .session) (d .used + length (recordBytes (storedFor t))) (storedFor t .delay)) point.Absent (y .read) x (counts-timed R t (d .n)) (notes-timed t)
         (step-timed (d .session) (d .area) (d .used) s t y (v .in-range) (l .state-is) (lengths (d .session .used) (l .used-same))
-        (omega (arith, l .total-is, storable .valid .within-limit)) (not-at-mark R (d .n) (d .session) t ys (d .session .mark) delay marks) (room (recordOf t) x (v .small)))
+        (omega (arith, l .total-is, storable .valid .within-limit)) (not-at-mark R (d .n) (d .session) t ys (d .session .mark) delay marks) (room (storedFor t) x (v .small)))
         (unpointed R (suc (d .n)) 0 (λ b. absurd (never b)))
         (λ f se us k. logging (record {
           stored-ones = xs ++ (t ∷ []);

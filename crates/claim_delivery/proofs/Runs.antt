@@ -9,7 +9,8 @@ use mathlib.Core.List.{List, [], _∷_, _++_, append-assoc, append-nil, map}
 use lib.Dec.{eqb}
 use lib.ListN.{length, take, drop, length-append, take-append-drop}
 use borrow.Author.Tests.{eq-eqb, eqb-true, eqb-false}
-use Rattle.base_laws.specs.Base.{pick}
+use Rattle.base_laws.specs.Base.{pick, All}
+use Rattle.base_laws.proofs.Lists.{all-append, all-right}
 use Rattle.wire_message.specs.Message.{Bytes, Client}
 use Rattle.wire.specs.Read.{Reading, clientMessage}
 use Rattle.file_format.specs.Record.{recordBytes}
@@ -24,14 +25,14 @@ use Rattle.session.specs.declared.Mark.{Mark}
 use Rattle.session.specs.declared.Mark.the-variants as mark
 use Rattle.session.specs.declared.Point.{Point}
 use Rattle.session.specs.declared.Point.the-variants as point
-use Rattle.claim_delivery.specs.Recording.{TimedRecord, Recording, recordOf, records, All}
+use Rattle.claim_values.specs.Values.{TimedRecord, storedFor}
+use Rattle.claim_delivery.specs.Recording.{Recording, records}
 use Rattle.claim_delivery.specs.Sender.{Place, Sent, messages, withHello, Lines}
 use Rattle.claim_delivery.specs.Host.{frames, Drained, cutAll, booked, Answer, toTick, toMessage, Desk, hand, handAll}
 use Rattle.claim_delivery.specs.World.{Connection, World, fresh, Event, opening, bytes, tick, arrival, break, withConnection, opened, put, desk, settled, cameIn, tickAnswers, stoppedAfter, arrived, inside, outside, happens, run, Fresh, Proper, AllProper}
 use Rattle.claim_delivery.proofs.Totals.{greater-is}
 use Rattle.claim_delivery.proofs.Cutting.{Fits, Left, drained}
-use Rattle.claim_delivery.proofs.Values.{Storable}
-use Rattle.claim_delivery.proofs.Files.{all-append, all-right}
+use Rattle.claim_delivery.proofs.Files.{Storable}
 use Rattle.claim_delivery.proofs.Areas.{Lies}
 use Rattle.claim_delivery.proofs.Desk.{Good, PointOk, AnswerOk, Quiet, MarkOk, Lead, Stage, beginning, resuming, logging, over, RestartOk, Inv, reads-some, all-handed}
 
@@ -308,7 +309,7 @@ module _ (R : Recording) (blank : ℕ → Bytes) where
   unfolding fileBytes records
   fresh-zero area used zero h e = refl
   fresh-zero area used (suc n) h e =
-      absurd (omega (arith, h .lies .used-is, length-append (recordBytes (acceptRecord (R .accept))) (fileBytes (take n (map recordOf (R .timed) ++ (exitRecord (R .exit) ∷ [])))), length-record (acceptRecord (R .accept))))
+      absurd (omega (arith, h .lies .used-is, length-append (recordBytes (acceptRecord (R .accept))) (fileBytes (take n (map storedFor (R .timed) ++ (exitRecord (R .exit) ∷ [])))), length-record (acceptRecord (R .accept))))
 
   opened-ok : (w : World) (l : Option Place) (h : Bool) (bs : List Bytes) (a : ℕ) → WorldOk w → w .part ≡ [] → w .latest ≡ l
       → Lines bs (withHello h (messages R l)) → Fresh w l a → WorldOk (opened w bs a)
