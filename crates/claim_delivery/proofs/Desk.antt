@@ -9,14 +9,14 @@ use mathlib.Core.List.{List, [], _∷_, _++_, append-assoc, append-nil, head-eq-
 use lib.Dec.{eqb}
 use lib.ListN.{length, take, length-append}
 use borrow.Author.Tests.{eq-eqb, ne-eqb, eqb-true, eqb-false}
-use Rattle.base_laws.specs.Base.{pick, both, splice, All}
+use Rattle.base_laws.specs.Base.{pick, both, All}
 use Rattle.base_laws.proofs.Lists.{all-append, all-right, all-map}
 use Rattle.wire_message.specs.Message.{Bytes, Restart, Client, acceptMsg, rejectMsg, exitMsg, restartMsg, alertMsg, ioBuf, winsizeEvent, suspendEvent, helloMsg}
 use Rattle.wire_range.specs.Range.{restartFits}
 use Rattle.wire.specs.Read.{value, clientMessage}
 use Rattle.file_format.specs.Record.{Record, recordBytes}
 use Rattle.file_format.specs.File.{recordsOf, fileBytes, total, fileKind}
-use Rattle.session.specs.Step.{Outcome, moment, acceptRecord, exitRecord, fromAccept, grown, carrying, withinArea, lengthsFit, atMark, refuse, taken, roomFor, step}
+use Rattle.session.specs.Step.{Outcome, moment, acceptRecord, exitRecord, fromAccept, grown, ended, carrying, withinArea, lengthsFit, atMark, refuse, taken, roomFor, stored, step}
 use Rattle.session.proofs.Turns.{mayOpen}
 use Rattle.session_turn.specs.declared.State.{State}
 use Rattle.session_turn.specs.declared.State.the-variants.{New, Greeted, Logging, Closed}
@@ -29,7 +29,7 @@ use Rattle.claim_values.specs.Values.{TimedRecord, io, window, suspend, storedF
 use Rattle.claim_values.proofs.Stored.{StorableTimed, time-is}
 use Rattle.claim_delivery.specs.Recording.{Recording, records, time, totalOf, acceptOf}
 use Rattle.claim_delivery.specs.Sender.{Sent, hello, accept, restart, timed, exit, rest, Reads, Says, Lines}
-use Rattle.claim_delivery.specs.Host.{countedMember, counted, booked, WholeRestart, carries, notedMember, noted, Answer, toTick, toMessage, Desk, hand, handAll}
+use Rattle.claim_delivery.specs.Host.{countedMember, counted, booked, WholeRestart, carries, notedMember, noted, Answer, toTick, toMessage, Desk, restartNote, deskAfter, hand, handAll}
 use Rattle.claim_delivery.specs.World.{isPoint, stoppedAfter}
 use Rattle.claim_delivery.proofs.Totals.{kept, later, kept-later, atMost-is, kept-beginning, kept-exact, HeadLater, later-head}
 use Rattle.claim_delivery.proofs.Files.{Storable, total-of-append, begun, first, size, Count, nothing, some-of, whole, count, beginning-short, begun-unfinished, read-begun, whole-finished, read-whole, carries-is}
@@ -206,14 +206,7 @@ reads-some s (exit e) y = (exitMsg e, y)
 module _ (R : Recording) (storable : Storable R) (c : ℕ) (fits : length (fileBytes (records R)) ≤ c) (small : c ≤ 1073741824) where
   -- the desk after a message, where what the session gives and the book are known
   after : Client → Desk → Outcome → ℕ → Desk
-  after m d o n = record {
-    session = o .session;
-    area = o .area;
-    used = o .used;
-    n = n;
-    restarts = d .restarts ++ notedMember m (record { taken = eqb (o .refusal) 0; carried = carries (fileKind (take (d .used) (d .area))) });
-    out = d .out ++ (toMessage (o .refusal) (o .point) ∷ []);
-  }
+  after m d o n = deskAfter d o n (notedMember m (restartNote d o))
 
   hand-is : (s : Bytes) (m : Client) (d : Desk) (o : Outcome) (n : ℕ) → clientMessage s ≡ value m → step (d .session) (d .area) (d .used) s ≡ o
       → booked R (value m) (d .n) ≡ n → hand R s d ≡ after m d o n
@@ -253,25 +246,25 @@ module _ (R : Recording) (storable : Storable R) (c : ℕ) (fits : length (fileB
     -- a record that was stored
     stored-to : (m : Client) (r : Record) (se : Session) (pt : Point) → clientMessage s ≡ value m → Next R (d .n) r → countedMember R m (d .n) ≡ suc (d .n)
         → ((w : WholeRestart) → notedMember m w ≡ [])
-        → step (d .session) (d .area) (d .used) s
-        ≡ record { refusal = 0; key = 0; point = pt; session = se; used = d .used + length (recordBytes r); area = splice (d .area) (d .used) (recordBytes r) }
+        → se .used ≡ d .used + length (recordBytes r)
+        → step (d .session) (d .area) (d .used) s ≡ carrying pt se (stored (d .session) (d .area) (d .used) r)
         → MessageOk R (suc (d .n)) 0 pt
         → ((e : Desk) → e .session ≡ se → e .used ≡ d .used + length (recordBytes r) → e .n ≡ suc (d .n) → Stage R p ms e)
         → To
     unfolding after
-    stored-to m r se pt read x counts quiet gives ok st =
+    stored-to m r se pt read x counts quiet ends gives ok st =
         let below : d .n < length (records R) = next-below R (d .n) r (i .within) x in
-        let o : Outcome = record { refusal = 0; key = 0; point = pt; session = se; used = d .used + length (recordBytes r); area = splice (d .area) (d .used) (recordBytes r) } in
+        let o : Outcome = carrying pt se (stored (d .session) (d .area) (d .used) r) in
         rw (hand-is s m d o (suc (d .n)) read gives (book-counts m (d .n) below ∙ counts))
         (record {
-          lies = lies-next R (d .n) r (d .area) (d .used) (i .within) x (omega (arith, i .sized)) (i .lies);
+          lies = rw ends (lies-next R (d .n) r (d .area) (d .used) (i .within) x (omega (arith, i .sized)) (i .lies));
           sized = size-next R (d .n) r (d .area) (d .used) x (omega (arith, i .sized)) (i .lies) ∙ i .sized;
           within = omega arith;
           restarts-ok = all-append RestartOk (d .restarts) _ (i .restarts-ok) (rw (quiet (record { taken = true; carried = carried })) tt);
           out-ok = all-append (AnswerOk R (suc (d .n))) (d .out) (toMessage 0 pt ∷ [])
               (all-map (AnswerOk R (d .n)) (AnswerOk R (suc (d .n))) (answer-more R (d .n) (suc (d .n)) (omega arith) (omega arith)) (d .out) (i .out-ok)) (ok, tt);
           point-ok = point-more R (d .n) (suc (d .n)) (omega arith) p (i .point-ok);
-          stage = st (after m d o (suc (d .n))) refl refl refl;
+          stage = st (after m d o (suc (d .n))) refl ends refl;
         })
 
     -- the accept
@@ -281,7 +274,7 @@ module _ (R : Recording) (storable : Storable R) (c : ℕ) (fits : length (fileB
         let a : Record = acceptRecord (R .accept) in
         let x : Next R (d .n) a = rw z (next-accept R) in
         let u : d .used ≡ 0 = i .lies .used-is ∙ ap (λ (k : ℕ). length (fileBytes (take k (records R)))) z in
-        stored-to (acceptMsg (acceptOf R)) a (fromAccept (d .used + length (recordBytes a))) point.Absent (y .0 .read) x refl (λ w. refl)
+        stored-to (acceptMsg (acceptOf R)) a (fromAccept (d .used + length (recordBytes a))) point.Absent (y .0 .read) x refl (λ w. refl) refl
         (step-accept (d .session) (d .area) (d .used) s R (storable .valid) (y .0) (y .1) o (lengths 0 u) (room a x (storable .accept-small)))
         (unpointed R (suc (d .n)) 0 (λ b. absurd (never b)))
         (λ f se us k. logging (record {
@@ -308,7 +301,7 @@ module _ (R : Recording) (storable : Storable R) (c : ℕ) (fits : length (fileB
         let sums : totalOf xs + (time t + totalOf ys) ≡ totalOf (R .timed) = sym (total-of-append xs (t ∷ ys)) ∙ ap totalOf split in
         let marks : MarkOk R (d .n) (t ∷ ys) (d .session .total) (d .session .low) (d .session .mark) = rw e at (l .mark-ok) in
         let after-it = marks-after R (d .n) (d .session) t xs ys split (l .n-is) (l .total-is) delay marks (eqb (storedFor t .delay) 0) refl in
-        stored-to (timedMember t) (storedFor t) (grown (d .session) (d .used + length (recordBytes (storedFor t))) (storedFor t .delay)) point.Absent (y .read) x (counts-timed R t (d .n)) (notes-timed t)
+        stored-to (timedMember t) (storedFor t) (grown (d .session) (d .used + length (recordBytes (storedFor t))) (storedFor t .delay)) point.Absent (y .read) x (counts-timed R t (d .n)) (notes-timed t) refl
         (step-timed (d .session) (d .area) (d .used) s t y (v .in-range) (l .state-is) (lengths (d .session .used) (l .used-same))
         (omega (arith, l .total-is, storable .valid .within-limit)) (not-at-mark R (d .n) (d .session) t ys (d .session .mark) delay marks) (room (storedFor t) x (v .small)))
         (unpointed R (suc (d .n)) 0 (λ b. absurd (never b)))
@@ -335,8 +328,8 @@ module _ (R : Recording) (storable : Storable R) (c : ℕ) (fits : length (fileB
         let x : Next R (d .n) r = next-exit R (d .n) n-is in
         let full : suc (d .n) ≡ length (records R) = omega (arith, size R) in
         stored-to (exitMsg (R .exit)) r
-        (record { state = Closed; used = d .used + length (recordBytes r); total = d .session .total; low = d .session .low; mark = d .session .mark })
-        (point.At (d .session .total)) (y .read) x refl (λ w. refl)
+        (ended (d .session) (d .used + length (recordBytes r)))
+        (point.At (d .session .total)) (y .read) x refl (λ w. refl) refl
         (step-exit (d .session) (d .area) (d .used) s (R .exit) y (storable .valid .exit-in-range) (l .state-is) (lengths (d .session .used) (l .used-same)) (room r x (storable .exit-small)))
         (record { is-total = λ T q. sym (at-same q) ∙ l .total-is ∙ ap totalOf all-of; is-whole = λ q. full })
         (λ f se us k. over (ap (λ (q : Session). q .state) se) (k ∙ full))

@@ -28,8 +28,8 @@ use Rattle.session.specs.declared.Point.the-variants as point
 use Rattle.claim_values.specs.Values.{TimedRecord, storedFor}
 use Rattle.claim_delivery.specs.Recording.{Recording, records}
 use Rattle.claim_delivery.specs.Sender.{Place, Sent, messages, withHello, Lines}
-use Rattle.claim_delivery.specs.Host.{frames, Drained, cutAll, booked, Answer, toTick, toMessage, Desk, hand, handAll}
-use Rattle.claim_delivery.specs.World.{Connection, World, fresh, Event, opening, bytes, tick, arrival, break, withConnection, opened, put, desk, settled, cameIn, tickAnswers, stoppedAfter, arrived, inside, outside, happens, run, Fresh, Proper, AllProper}
+use Rattle.claim_delivery.specs.Host.{frames, Drained, cutAll, booked, Answer, toTick, toMessage, Desk, withOut, hand, handAll}
+use Rattle.claim_delivery.specs.World.{Connection, sending, World, fresh, Event, opening, bytes, tick, arrival, break, withConnection, opened, put, desk, settled, cameIn, tickAnswers, stoppedAfter, arrived, inside, outside, happens, run, Fresh, Proper, AllProper}
 use Rattle.claim_delivery.proofs.Totals.{greater-is}
 use Rattle.claim_delivery.proofs.Cutting.{Fits, Left, drained}
 use Rattle.claim_delivery.proofs.Files.{Storable}
@@ -95,20 +95,11 @@ module _ (R : Recording) (blank : ℕ → Bytes) where
   -- ---- a tick puts a good point under way, or none
 
   Ticked : Desk → Desk
-  Ticked d = record {
-    session = d .session;
-    area = d .area;
-    used = d .used;
-    n = d .n;
-    restarts = d .restarts;
-    out = d .out ++ tickAnswers (session.tick (d .session));
-  }
+  Ticked d = withOut d (d .out ++ tickAnswers (session.tick (d .session)))
 
   no-tick : (d : Desk) → session.tick (d .session) ≡ point.Absent → Ticked d ≡ d
   unfolding Ticked tickAnswers
-  no-tick d h =
-      ap (λ (z : Point). record { session = d .session; area = d .area; used = d .used; n = d .n; restarts = d .restarts; out = d .out ++ tickAnswers z }) h
-      ∙ ap (λ (z : List Answer). record { session = d .session; area = d .area; used = d .used; n = d .n; restarts = d .restarts; out = z }) (append-nil (d .out))
+  no-tick d h = ap (λ (z : Point). withOut d (d .out ++ tickAnswers z)) h ∙ ap (withOut d) (append-nil (d .out))
 
   -- where no record can be stored a tick gives none
   opening-quiet : (st : State) (p : Point) → mayOpen st ≡ true → pointIn st p ≡ point.Absent
@@ -231,7 +222,7 @@ module _ (R : Recording) (blank : ℕ → Bytes) where
   -- ---- an arrival: whatever comes first, the invariant holds with the sender's new latest point
 
   came : (c : ℕ) (p q : Option ℕ) (ms : List Sent) (d : Desk) (a : Answer) (out : List Answer) → d .out ≡ a ∷ out → Inv R c p ms d → PointOk R (d .n) q → (Quiet a → q ≡ p)
-      → Inv R c q ms (record { session = d .session; area = d .area; used = d .used; n = d .n; restarts = d .restarts; out = out })
+      → Inv R c q ms (withOut d out)
   came c p q ms d a out e i g same = record {
     lies = i .lies;
     sized = i .sized;
@@ -242,7 +233,7 @@ module _ (R : Recording) (blank : ℕ → Bytes) where
     stage = go (i .stage);
   }
     where
-      go : Stage R p ms d → Stage R q ms (record { session = d .session; area = d .area; used = d .used; n = d .n; restarts = d .restarts; out = out })
+      go : Stage R p ms d → Stage R q ms (withOut d out)
       go (beginning l z) = beginning l z
       go (resuming T l h o) = let z = rw e at o in resuming T l (same (z .0) ∙ h) (z .1)
       go (over h z) = over h z
@@ -254,7 +245,7 @@ module _ (R : Recording) (blank : ℕ → Bytes) where
 
   moved : (w : World) (c : Connection) (a : Answer) (out : List Answer) (q : Option ℕ) (latest : Option Place) (stopped : Bool) → WorldOk w → (l : Link w c)
       → c .out ≡ a ∷ out → latest ≡ placed (c .area) q → PointOk R (w .book (c .area)) q → (Quiet a → q ≡ l .sees) → (stopped ≡ true → Whole R (w .book))
-      → WorldOk (withConnection w latest stopped (w .part) (some (record { area = c .area; session = c .session; line = c .line; out = out })))
+      → WorldOk (withConnection w latest stopped (w .part) (some (sending c out)))
   unfolding desk
   moved w c a out q latest stopped ok l e p g same s = record {
     sizes = ok .sizes;
