@@ -1,3 +1,4 @@
+-- Each case is a test of the definition `memberIn`: the ruleset tests closes it.
 use Rattle.write_message.specs.Fits.{memberIn}
 use Rattle.base_laws.proofs.Tests.{tests}
 use borrow.Author.Needs.{needs}
