@@ -66,7 +66,11 @@ returns-2 c = after (c .before .before) _ (c .enum-told .given .1) .1
 
 returns-3 : tie.Need-returns-3 Inv-loop μ-loop
 unfolding firstOf
-returns-3 c = let a = c .before .before .before .args in ap (λ (y : List Field). firstOf (a .number) y) (sym (none (a .s .now) (c .before .loop .at) (c .loop-test .left))) ∙ c .before .loop .inv
+returns-3 c =
+    let at-loop = c .before in
+    let a = at-loop .before .before .args in
+    ap (λ (y : List Field). firstOf (a .number) y) (sym (none (a .s .now) (at-loop .loop .at) (c .loop-test .left)))
+    ∙ at-loop .loop .inv
 
 pub next-part-spec : {M : Type 1} → statement M
 next-part-spec =

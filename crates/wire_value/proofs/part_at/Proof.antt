@@ -8,9 +8,13 @@ use Rattle.wire_value.proofs.part_at.Tie as tie
 
 returns : tie.Need-returns
 unfolding partOf
-returns c = let w = c .before .before in
+returns c =
+    let at-if2 = c .before in
+    let at-wide = at-if2 .before in
+    let w = at-wide in
     let a = w .before .before .before .before .args in
-    rw (one-byte (a .s .now) (a .at) (w .wide .result) (w .before .before .if1 .taken) (sym (w .wide .ensures)) (c .before .if2 .taken), le-leb _ _ (c .if3 .taken))
+    rw
+    (one-byte (a .s .now) (a .at) (w .wide .result) (w .before .before .if1 .taken) (sym (w .wide .ensures)) (at-if2 .if2 .taken), le-leb _ _ (c .if3 .taken))
 
 pub part-at-spec : {M : Type 1} → statement M
 part-at-spec =

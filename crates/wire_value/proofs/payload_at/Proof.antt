@@ -40,18 +40,24 @@ sub-left c = let v = c .before .before in
 
 returns-4 : tie.Need-returns-4
 unfolding payloadAt partOf
-returns-4 c = let e = c .before in
+returns-4 c =
+    let at-if3 = c .before in
+    let e = at-if3 in
     let v = e .before .before in
     let k = v .before .before in
-    rw (ne-eqb _ _ (e .if3 .left), ne-eqb _ _ (k .before .before .if1 .left), ne-eqb _ _ (k .before .if2 .left), sym (k .varint-at .ensures) ∙ v .value .given .1)
+    rw
+    (ne-eqb _ _ (e .if3 .left), ne-eqb _ _ (k .before .before .if1 .left), ne-eqb _ _ (k .before .if2 .left), sym (k .varint-at .ensures) ∙ v .value .given .1)
     (simp (le-leb _ _ (c .if4 .taken)))
 
 returns-5 : tie.Need-returns-5
 unfolding payloadAt partOf
-returns-5 c = let e = c .before in
+returns-5 c =
+    let at-if3 = c .before in
+    let e = at-if3 in
     let v = e .before .before in
     let k = v .before .before in
-    rw (ne-eqb _ _ (e .if3 .left), ne-eqb _ _ (k .before .before .if1 .left), ne-eqb _ _ (k .before .if2 .left), sym (k .varint-at .ensures) ∙ v .value .given .1)
+    rw
+    (ne-eqb _ _ (e .if3 .left), ne-eqb _ _ (k .before .before .if1 .left), ne-eqb _ _ (k .before .if2 .left), sym (k .varint-at .ensures) ∙ v .value .given .1)
     (simp (lt-leb _ _ (c .if4 .left)))
 
 returns-6 : tie.Need-returns-6

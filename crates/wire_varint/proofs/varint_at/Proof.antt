@@ -38,24 +38,31 @@ add-t14 c =
     let z : l .more ≡ 0 = c .before .if1 .taken in
     omega (arith, share (w .wide .result) (l .scale) 1 b, room-last (l .scale) (l .more) (l .inv .1) z)
 
-add-t15 : tie.Need-add-t15 Inv-loop μ-loop
-add-t15 c = omega arith
-
 returns : tie.Need-returns Inv-loop μ-loop
 returns c =
-    let w = c .before .before in
+    let at-if1 = c .before in
+    let at-wide = at-if1 .before in
+    let w = at-wide in
     let l = w .before .before .before .loop in
     let a = w .before .before .before .before .before .args in
     let b : w .wide .result ≤ 1 = c .if2 .taken in
-    let z : l .more ≡ 0 = c .before .if1 .taken in
-    rw (w .wide .ensures) (ap (under (l .value) (l .scale)) (last-fits (a .s .now) (l .at) (l .more) z (w .before .before .loop-test .taken) (omega (arith, w .wide .ensures))) ∙ l .inv .2)
+    let z : l .more ≡ 0 = at-if1 .if1 .taken in
+    rw (w .wide .ensures)
+    (ap (under (l .value) (l .scale))
+    (last-fits (a .s .now) (l .at) (l .more) z (w .before .before .loop-test .taken) (omega (arith, w .wide .ensures)))
+    ∙ l .inv .2)
 
 returns-2 : tie.Need-returns-2 Inv-loop μ-loop
 returns-2 c =
-    let w = c .before .before in
+    let at-if1 = c .before in
+    let at-wide = at-if1 .before in
+    let w = at-wide in
     let l = w .before .before .before .loop in
     let a = w .before .before .before .before .before .args in
-    ap (under (l .value) (l .scale)) (last-long (a .s .now) (l .at) (l .more) (c .before .if1 .taken) (w .before .before .loop-test .taken) (omega (arith, w .wide .ensures))) ∙ l .inv .2
+    ap (under (l .value) (l .scale))
+    (last-long (a .s .now) (l .at) (l .more) (at-if1 .if1 .taken) (w .before .before .loop-test .taken)
+    (omega (arith, w .wide .ensures)))
+    ∙ l .inv .2
 
 mul-t16 : tie.Need-mul-t16 Inv-loop μ-loop
 mul-t16 c =
@@ -73,15 +80,17 @@ add-t17 c =
     let b : w .wide .result ≤ 127 = omega arith in
     omega (arith, share (w .wide .result) (l .scale) 127 b, room (l .scale) (l .more) (l .inv .1) (c .before .if1 .left))
 
-add-t18 : tie.Need-add-t18 Inv-loop μ-loop
-add-t18 c = omega arith
-
 returns-3 : tie.Need-returns-3 Inv-loop μ-loop
 returns-3 c =
-    let w = c .before .before in
+    let at-if1 = c .before in
+    let at-wide = at-if1 .before in
+    let w = at-wide in
     let l = w .before .before .before .loop in
     let a = w .before .before .before .before .before .args in
-    rw (w .wide .ensures) (ap (under (l .value) (l .scale)) (ends (a .s .now) (l .at) (l .more) (c .before .if1 .left) (w .before .before .loop-test .taken) (omega (arith, w .wide .ensures))) ∙ l .inv .2)
+    rw (w .wide .ensures)
+    (ap (under (l .value) (l .scale))
+    (ends (a .s .now) (l .at) (l .more) (at-if1 .if1 .left) (w .before .before .loop-test .taken) (omega (arith, w .wide .ensures)))
+    ∙ l .inv .2)
 
 mul-value : tie.Need-mul-value Inv-loop μ-loop
 mul-value c =
@@ -106,24 +115,18 @@ mul-scale c =
     let a = w .before .before .before .before .before .args in
     omega (arith, room (l .scale) (l .more) (l .inv .1) (c .before .if1 .left))
 
-sub-more : tie.Need-sub-more Inv-loop μ-loop
-sub-more c = omega arith
-
-add-at : tie.Need-add-at Inv-loop μ-loop
-add-at c = omega arith
-
-loop-less : tie.Need-loop-less Inv-loop μ-loop
-loop-less c = omega arith
-
 loop-again : tie.Need-loop-again Inv-loop μ-loop
 loop-again c =
-    let w = c .before .before in
+    let at-if1 = c .before in
+    let at-wide = at-if1 .before in
+    let w = at-wide in
     let l = w .before .before .before .loop in
     let a = w .before .before .before .before .before .args in
     let b : w .wide .result - 128 ≤ 127 = omega (arith, w .wide .ensures, w .before .shared-slice-known2 .given (l .at)) in
-    let g = goes-on (a .s .now) (l .at) (l .more) (l .more - 1) (omega arith) (w .before .before .loop-test .taken) (omega (arith, w .wide .ensures)) in (
-      omega (arith, share (w .wide .result - 128) (l .scale) 127 b, room (l .scale) (l .more) (l .inv .1) (c .before .if1 .left)),
-      room-next (l .scale) (l .more) (l .inv .1) (c .before .if1 .left),
+    let g = goes-on (a .s .now) (l .at) (l .more) (l .more - 1) (omega arith) (w .before .before .loop-test .taken)
+    (omega (arith, w .wide .ensures)) in (
+      omega (arith, share (w .wide .result - 128) (l .scale) 127 b, room (l .scale) (l .more) (l .inv .1) (at-if1 .if1 .left)),
+      room-next (l .scale) (l .more) (l .inv .1) (at-if1 .if1 .left),
       sym (under-above (l .value) (l .scale) (w .wide .result - 128) (varintFrom (l .more - 1) (a .s .now) (l .at + 1)))
           ∙ rw (w .wide .ensures) (ap (under (l .value) (l .scale)) g ∙ l .inv .2),
     )
@@ -145,18 +148,18 @@ varint-at-spec =
     (λ c κs. search needs)
     mul-t13
     add-t14
-    add-t15
+    (λ c. omega arith)
     returns
     returns-2
     mul-t16
     add-t17
-    add-t18
+    (λ c. omega arith)
     returns-3
     mul-value
     add-value
     mul-scale
-    sub-more
-    add-at
-    loop-less
+    (λ c. omega arith)
+    (λ c. omega arith)
+    (λ c. omega arith)
     loop-again
     returns-4)

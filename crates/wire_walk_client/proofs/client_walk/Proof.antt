@@ -88,12 +88,6 @@ returns c =
 sub-io-buffer : tie.Need-sub-io-buffer Inv-loop μ-loop
 sub-io-buffer c = member-lies (io-member (buffer c)) .0
 
-part-io-buffer-start : tie.Need-part-io-buffer-start Inv-loop μ-loop
-part-io-buffer-start c = let lies = member-lies (io-member (buffer c)) in omega arith
-
-part-io-buffer-end : tie.Need-part-io-buffer-end Inv-loop μ-loop
-part-io-buffer-end c = let lies = member-lies (io-member (buffer c)) in omega arith
-
 add-t34 : tie.Need-add-t34 Inv-loop μ-loop
 add-t34 c =
     let at-io = c .before .before .before in
@@ -135,12 +129,6 @@ returns-2 c =
 
 sub-check : tie.Need-sub-check Inv-loop μ-loop
 sub-check c = member-lies (member c) .0
-
-part-check-start : tie.Need-part-check-start Inv-loop μ-loop
-part-check-start c = let lies = member-lies (member c) in omega arith
-
-part-check-end : tie.Need-part-check-end Inv-loop μ-loop
-part-check-end c = let lies = member-lies (member c) in omega arith
 
 entered : (c : tie.After-enum-told Inv-loop μ-loop) →
     at-bytes (λ a b s at found f w x. (at < b) × Told s b (client.Member f a b)) (c .before .before .before .before .before .before .before)
@@ -247,8 +235,8 @@ client-walk-spec =
     (λ c κs. search needs)
     (λ c. search needs)
     sub-io-buffer
-    part-io-buffer-start
-    part-io-buffer-end
+    (λ c. let lies = member-lies (io-member (buffer c)) in omega arith)
+    (λ c. let lies = member-lies (io-member (buffer c)) in omega arith)
     (λ c κs. search needs)
     (λ c. search needs)
     add-t34
@@ -259,8 +247,8 @@ client-walk-spec =
     add-t36
     returns-2
     sub-check
-    part-check-start
-    part-check-end
+    (λ c. let lies = member-lies (member c) in omega arith)
+    (λ c. let lies = member-lies (member c) in omega arith)
     (λ c κs. search needs)
     (λ c. search needs)
     loop-less-2

@@ -7,9 +7,13 @@ use Rattle.wire_varint.proofs.tag.tag_at.Tie as tie
 
 returns : tie.Need-returns
 unfolding tagAt
-returns c = let w = c .before .before in
+returns c =
+    let at-if2 = c .before in
+    let at-wide = at-if2 .before in
+    let w = at-wide in
     let a = w .before .before .before .before .args in
-    rw (one-byte (a .s .now) (a .at) (w .wide .result) (w .before .before .if1 .taken) (sym (w .wide .ensures)) (c .before .if2 .taken)) (c .tag-of .ensures)
+    rw (one-byte (a .s .now) (a .at) (w .wide .result) (w .before .before .if1 .taken) (sym (w .wide .ensures)) (at-if2 .if2 .taken))
+    (c .tag-of .ensures)
 
 pub tag-at-spec : {M : Type 1} → statement M
 tag-at-spec =

@@ -54,12 +54,6 @@ loop-holds c = start _
 sub-time-spec : tie.Need-sub-time-spec Inv-loop μ-loop
 sub-time-spec c = delay-lies (delay c) .0
 
-part-time-spec-start : tie.Need-part-time-spec-start Inv-loop μ-loop
-part-time-spec-start c = let lies = delay-lies (delay c) in omega arith
-
-part-time-spec-end : tie.Need-part-time-spec-end Inv-loop μ-loop
-part-time-spec-end c = let lies = delay-lies (delay c) in omega arith
-
 loop-less : tie.Need-loop-less Inv-loop μ-loop
 loop-less c =
     let at-time = c .before .before .before in
@@ -179,8 +173,8 @@ io-buffer-spec =
     (λ c κs. search needs)
     (λ c. search needs)
     sub-time-spec
-    part-time-spec-start
-    part-time-spec-end
+    (λ c. let lies = delay-lies (delay c) in omega arith)
+    (λ c. let lies = delay-lies (delay c) in omega arith)
     (λ c κs. search needs)
     (λ c. search needs)
     loop-less

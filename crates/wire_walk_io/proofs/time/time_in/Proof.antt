@@ -21,12 +21,6 @@ inside c =
 sub-t : tie.Need-sub-t
 sub-t c = inside c .0
 
-part-t-start : tie.Need-part-t-start
-part-t-start c = let h = inside c in omega arith
-
-part-t-end : tie.Need-part-t-end
-part-t-end c = let h = inside c in omega arith
-
 returns : tie.Need-returns
 unfolding timeFrom
 returns c = rw (sym (c .before .before .last-in .ensures) ∙ c .enum-told .given .1)
@@ -52,8 +46,8 @@ time-in-spec =
     (λ c. search needs)
     (λ c. search needs)
     sub-t
-    part-t-start
-    part-t-end
+    (λ c. let h = inside c in omega arith)
+    (λ c. let h = inside c in omega arith)
     (λ c κs. search needs)
     (λ c κs. search needs)
     returns

@@ -5,13 +5,6 @@ use borrow.Author.Needs.{needs}
 use Rattle.write_message.proofs.fits.member_in.Statement.{statement}
 use Rattle.write_message.proofs.fits.member_in.Tie as tie
 
-returns : tie.Need-returns
-unfolding memberIn
-returns c = search tests
-
-returns-2 : tie.Need-returns-2
-unfolding memberIn
-returns-2 c = search tests
-
 pub member-in-spec : {M : Type 1} → statement M
-member-in-spec = tie.close (tie.spec returns (λ c κs. search needs) returns-2)
+unfolding memberIn
+member-in-spec = tie.close (tie.spec (λ c. search tests) (λ c κs. search needs) (λ c. search tests))

@@ -9,8 +9,7 @@ returns : tie.Need-returns
 returns c =
     let at-len-cover = c .before in
     let at-len-first = at-len-cover .before in
-    let at-start = at-len-first .before .before .before .before .before in
-    let a = at-start .args in
+    let a = at-len-first .before .before .before .before .before .args in
     let ps = firstPieces (a .p) (a .t1 .now) (a .t2 .now) in
     let qs = lastPieces (a .p) (a .t4 .now) (a .t5 .now) in
     let first = at-len-first .len-first .ensures .0 in

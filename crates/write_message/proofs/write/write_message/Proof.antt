@@ -94,13 +94,15 @@ put-form-requires c κs =
 returns-4 : tie.Need-returns-4
 returns-4 c =
     let at-put-form = c .before .before in
+    let at-put-form = at-put-form in
     let at-put-cover = at-put-form .before .before .before .before in
     let at-put-front = at-put-cover .before .before .before .before in
     let at-if3 = at-put-front .before .before in
     let at-cover = at-if3 .before .before in
     let at-if2 = at-cover .before .before .before in
     let at-start = start at-if2 in
-    let put = put-wrapped (at-start .args .member) (whole at-start) (lengths at-if3 .whole-is) (at-put-cover .put-cover .ensures) (at-put-form .put-form .ensures) in
+    let put = put-wrapped (at-start .args .member) (whole at-start) (lengths at-if3 .whole-is) (at-put-cover .put-cover .ensures)
+    (at-put-form .put-form .ensures) in
     written (at-if2 .before .if1 .left) (not-false _ (at-if2 .if2 .left)) (message-like at-cover)
     (at-if3 .before .room-refusal .ensures) (at-if3 .if3 .left) (at-put-front .put-front .ensures) put
 
