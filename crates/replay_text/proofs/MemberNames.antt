@@ -1,11 +1,12 @@
 -- The names of a ClientMessage's members: what is put is the name of the number that the code's match is at. Assumes nothing.
 use mathlib.Core.Path.{_≡_, refl}
-use Prim.Native.Nat.{ℕ, zero, suc, _+_, _≤_}
+use Prim.Native.Nat.{ℕ, _+_, _≤_}
 use native.Mathlib.Omega.{arith}
 use mathlib.Core.List.{List}
 use lib.ListN.{length}
 use lib.Dec.{T, leb, leb→le}
 use borrow.Author.Tests.{ne-eqb}
+use Rattle.base_laws.proofs.Order.{Apart}
 use Rattle.write_pieces.specs.Put.{Put}
 use Rattle.replay_text.specs.Names.{memberName}
 
@@ -14,13 +15,8 @@ pub named : {s s' : List ℕ} {at r m : ℕ} (k : ℕ) → T (leb (length (membe
     → Put s at (memberName k) s' r → (Put s at (memberName m) s' r) × (r ≤ at + 13)
 named k t e p = (rw e p, omega (arith, p .next, leb→le (length (memberName k)) 13 t))
 
--- m is none of 1 to n, as a match says it
-abbrev pub Apart : ℕ → ℕ → Type 0
-Apart m zero = Unit
-Apart m (suc n) = Apart m n × (m ≡ suc n → ⊥)
-
 -- any other number has the last name
-other-name : (m : ℕ) → Apart m 12 → memberName m ≡ memberName 13
+other-name : (m : ℕ) → Apart m 1 12 → memberName m ≡ memberName 13
 unfolding memberName
 other-name m h =
     let four = h .0 .0 .0 .0 .0 .0 .0 .0 in
@@ -29,6 +25,6 @@ other-name m h =
     (rw (ne-eqb m 5 (eight .0 .0 .0 .1), ne-eqb m 6 (eight .0 .0 .1), ne-eqb m 7 (eight .0 .1), ne-eqb m 8 (eight .1))
     (rw (ne-eqb m 9 (h .0 .0 .0 .1), ne-eqb m 10 (h .0 .0 .1), ne-eqb m 11 (h .0 .1), ne-eqb m 12 (h .1))))
 
-pub other-named : {s s' : List ℕ} {at r : ℕ} (m : ℕ) → Apart m 12 → Put s at (memberName 13) s' r → (Put s at (memberName m) s' r) × (r ≤ at + 13)
+pub other-named : {s s' : List ℕ} {at r : ℕ} (m : ℕ) → Apart m 1 12 → Put s at (memberName 13) s' r → (Put s at (memberName m) s' r) × (r ≤ at + 13)
 unfolding memberName
 other-named m h p = (rw (other-name m h) p, named 13 tt refl p .1)

@@ -14,13 +14,12 @@ from-member-requires : tie.Need-from-member-requires
 from-member-requires c κs =
     let at-start = c .before .before in
     let at-part-found = at-start .before .before in
-    let p = at-part-found in
-    let io = p .before .before in
+    let io = at-part-found .before .before in
     let w = io .before in
-    let tag = io-tag _ (sym (io .is-io .ensures) ∙ p .before .if2 .taken) in
+    let tag = io-tag _ (sym (io .is-io .ensures) ∙ at-part-found .before .if2 .taken) in
     let i : 0 < length (w .before .before .before .before .args .s .now) = omega (arith, w .before .before .if1 .left) in (
       (tag, record { within = i; tagged = one-byte _ 0 _ i (sym (w .wide .ensures)) (omega (arith, tag .most)) }),
-      (found-part _ _ _ (p .part-found .ensures) _ _ (at-start .start .given .1), c .if3 .taken),
+      (found-part _ _ _ (at-part-found .part-found .ensures) _ _ (at-start .start .given .1), c .if3 .taken),
     )
 
 pub plain-client-spec : {M : Type 1} → statement M

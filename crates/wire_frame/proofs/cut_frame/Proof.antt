@@ -1,3 +1,4 @@
+-- Each case is a test of `cutOf`, of the length that number_of ensures: the ruleset tests closes it.
 use borrow.Author.Needs.{needs}
 use Rattle.base_laws.proofs.Tests.{tests}
 use Rattle.wire_frame.specs.Frame.{cutOf, lengthOf}

@@ -1,3 +1,4 @@
+-- Each case is a test of the definition `takes`: the ruleset tests closes them.
 use Rattle.base_laws.proofs.Tests.{tests}
 use Rattle.wire_schema.specs.Schema.{takes}
 use Rattle.wire_schema.proofs.takes.Statement.{statement}

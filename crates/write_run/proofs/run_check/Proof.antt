@@ -50,16 +50,8 @@ loop-holds c = (omega arith, refl)
 loop-less : tie.Need-loop-less Inv-loop μ-loop
 loop-less c = let h = after (c .before .before .before) _ (c .before .next .given .1) .0 in omega arith
 
-loop-again : tie.Need-loop-again Inv-loop μ-loop
-unfolding onEntry
-loop-again c = let h = after (c .before .before .before) _ (c .before .next .given .1) in (h .0 .1, h .1)
-
 loop-less-2 : tie.Need-loop-less-2 Inv-loop μ-loop
 loop-less-2 c = let h = after (c .before .before .before) _ (c .before .next2 .given .1) .0 in omega arith
-
-loop-again-2 : tie.Need-loop-again-2 Inv-loop μ-loop
-unfolding onEntry
-loop-again-2 c = let h = after (c .before .before .before) _ (c .before .next2 .given .1) in (h .0 .1, h .1)
 
 sub-check : tie.Need-sub-check Inv-loop μ-loop
 sub-check c = after (c .before .before .before) _ (c .before .start .given .1) .0 .1
@@ -102,10 +94,6 @@ returns : tie.Need-returns Inv-loop μ-loop
 unfolding before
 returns c = afterwards (c .before .before .before) _ (c .before .refusal .given .1)
 
-returns-2 : tie.Need-returns-2 Inv-loop μ-loop
-unfolding onEntry
-returns-2 c = after (c .before .before .before) _ (c .before .refusal2 .given .1) .1
-
 returns-3 : tie.Need-returns-3 Inv-loop μ-loop
 returns-3 c =
     let at-loop = c .before in
@@ -113,6 +101,7 @@ returns-3 c =
     sym (run-end (at-start .args .field) (at-start .args .s .now) (at-loop .loop .at) (c .loop-test .left)) ∙ at-loop .loop .inv .1
 
 pub run-check-spec : {M : Type 1} → statement M
+unfolding onEntry
 run-check-spec =
     tie.close
     (tie.spec
@@ -122,10 +111,10 @@ run-check-spec =
     (λ c κs. search needs)
     (λ c. search needs)
     loop-less
-    loop-again
+    (λ c. let h = after (c .before .before .before) _ (c .before .next .given .1) in (h .0 .1, h .1))
     (λ c. search needs)
     loop-less-2
-    loop-again-2
+    (λ c. let h = after (c .before .before .before) _ (c .before .next2 .given .1) in (h .0 .1, h .1))
     (λ c. search needs)
     sub-check
     part-check-start
@@ -138,5 +127,5 @@ run-check-spec =
     add-t20
     returns
     (λ c. search needs)
-    returns-2
+    (λ c. after (c .before .before .before) _ (c .before .refusal2 .given .1) .1)
     returns-3)

@@ -16,13 +16,12 @@ add-number-at c = let k = c .before .before .before in omega (arith, key-there _
 returns-2 : tie.Need-returns-2
 returns-2 c =
     let at-value = c .before .before in
-    let v = at-value in
-    let n = v .before .before in
+    let n = at-value .before .before in
     let w = n .before .before in
     let k = w .before .before in
     numbered (k .before .before .before .args .s .now) (k .before .key-end .result)
     (key-there _ _ (k .before .key-end .ensures) (k .if1 .left)) (sym (w .wide .ensures) ∙ n .before .if2 .taken)
-    (v .value .given .0 .0) (v .value .given .0 .1 .0) (sym (n .number-at .ensures) ∙ v .value .given .1) (c .if3 .taken)
+    (at-value .value .given .0 .0) (at-value .value .given .0 .1 .0) (sym (n .number-at .ensures) ∙ at-value .value .given .1) (c .if3 .taken)
 
 add-part-found : tie.Need-add-part-found
 add-part-found c = let k = c .before .before .before in omega (arith, key-there _ _ (k .before .key-end .ensures) (k .if1 .left) .goes-on)
@@ -30,38 +29,35 @@ add-part-found c = let k = c .before .before .before in omega (arith, key-there 
 returns-7 : tie.Need-returns-7
 returns-7 c =
     let at-if4 = c .before in
-    let e = at-if4 in
-    let v = e .before .before in
+    let v = at-if4 .before .before in
     let p = v .before .before in
     let w = p .before .before in
     let k = w .before .before in
     text (k .before .before .before .args .s .now) (k .before .key-end .result)
     (key-there _ _ (k .before .key-end .ensures) (k .if1 .left)) (v .start .given .0 .0) (v .start .given .0 .1 .0)
-    (found-part _ _ _ (p .part-found .ensures) _ _ (v .start .given .1)) (e .if4 .taken) (sym (w .wide .ensures) ∙ c .if5 .taken)
+    (found-part _ _ _ (p .part-found .ensures) _ _ (v .start .given .1)) (at-if4 .if4 .taken) (sym (w .wide .ensures) ∙ c .if5 .taken)
 
 returns-8 : tie.Need-returns-8
 returns-8 c =
     let at-if4 = c .before .before in
-    let e = at-if4 in
-    let v = e .before .before in
+    let v = at-if4 .before .before in
     let p = v .before .before in
     let w = p .before .before in
     let k = w .before .before in
     texts (k .before .before .before .args .s .now) (k .before .key-end .result)
     (key-there _ _ (k .before .key-end .ensures) (k .if1 .left)) (v .start .given .0 .0) (v .start .given .0 .1 .0)
-    (found-part _ _ _ (p .part-found .ensures) _ _ (v .start .given .1)) (e .if4 .taken) (sym (w .wide .ensures) ∙ c .if6 .taken)
+    (found-part _ _ _ (p .part-found .ensures) _ _ (v .start .given .1)) (at-if4 .if4 .taken) (sym (w .wide .ensures) ∙ c .if6 .taken)
 
 returns-9 : tie.Need-returns-9
 returns-9 c =
     let at-if4 = c .before .before .before in
-    let e = at-if4 in
-    let v = e .before .before in
+    let v = at-if4 .before .before in
     let p = v .before .before in
     let w = p .before .before in
     let k = w .before .before in
     numbers (k .before .before .before .args .s .now) (k .before .key-end .result)
     (key-there _ _ (k .before .key-end .ensures) (k .if1 .left)) (v .start .given .0 .0) (v .start .given .0 .1 .0)
-    (found-part _ _ _ (p .part-found .ensures) _ _ (v .start .given .1)) (e .if4 .taken) (sym (w .wide .ensures) ∙ c .if7 .taken)
+    (found-part _ _ _ (p .part-found .ensures) _ _ (v .start .given .1)) (at-if4 .if4 .taken) (sym (w .wide .ensures) ∙ c .if7 .taken)
 
 pub plain-entry-spec : {M : Type 1} → statement M
 unfolding Formed

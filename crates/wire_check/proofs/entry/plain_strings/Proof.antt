@@ -25,11 +25,10 @@ past : (c : tie.After-known-told Inv-loop μ-loop)
     → Passed (c .before .before .before .before .before .before .before .before .before .args .s .now) (c .before .before .before .before .before .before .before .loop .at) (c .before .end .given .0 .1 .0)
 past c =
     let at-start = c .before in
-    let v = at-start in
-    let p = v .before .before in
+    let p = at-start .before .before in
     let l = p .before .before .before in
-    passed (l .before .before .before .args .s .now) (l .before .loop .at) (v .end .given .0 .0) (v .end .given .0 .1 .0)
-    (l .loop-test .taken) (p .before .if1 .left) (found-part _ _ _ (p .part-found .ensures) _ _ (v .end .given .1))
+    passed (l .before .before .before .args .s .now) (l .before .loop .at) (at-start .end .given .0 .0) (at-start .end .given .0 .1 .0)
+    (l .loop-test .taken) (p .before .if1 .left) (found-part _ _ _ (p .part-found .ensures) _ _ (at-start .end .given .1))
 
 loop-less : tie.Need-loop-less Inv-loop μ-loop
 loop-less c = let h = past c in omega arith

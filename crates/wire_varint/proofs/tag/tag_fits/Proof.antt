@@ -1,3 +1,4 @@
+-- Each case is a test of the definition `tagFits`: the ruleset tests closes them.
 use Rattle.base_laws.proofs.Tests.{tests}
 use Rattle.wire_varint.specs.Tag.{tagFits}
 use Rattle.wire_varint.proofs.tag.tag_fits.Statement.{statement}
