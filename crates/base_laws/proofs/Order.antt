@@ -1,5 +1,5 @@
 -- Which of two cases holds.
-use Prim.Native.Nat.{ℕ, _≤_, _<_}
+use Prim.Native.Nat.{ℕ, zero, suc, _+_, _≤_, _<_}
 use native.Mathlib.Omega.{arith}
 use mathlib.Core.Path.{_≡_, refl}
 use mathlib.Core.Logic.{_⊎_, inl, inr}
@@ -23,3 +23,12 @@ picked P false a b f g = g refl
 pub both-true : (a b : Bool) → both a b ≡ true → (a ≡ true) × (b ≡ true)
 both-true true b e = (refl, e)
 both-true false b e = let z : _≡_ {A = ℕ} 0 1 = cc in absurd (omega arith)
+
+-- m is none of the n numbers from lo on, as the last arm of a match says it
+abbrev pub Apart : ℕ → ℕ → ℕ → Type 0
+Apart m lo zero = Unit
+Apart m lo (suc n) = Apart m lo n × (m ≡ lo + n → ⊥)
+
+pub apart-past : (m n : ℕ) → Apart m 0 n → n ≤ m
+apart-past m zero h = omega arith
+apart-past m (suc n) h = let l = apart-past m n (h .0) in omega (arith, h .1)

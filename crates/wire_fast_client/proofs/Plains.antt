@@ -16,10 +16,9 @@ use Rattle.wire_varint.specs.declared.Varint.the-variants.{Value}
 use Rattle.wire_varint.specs.declared.tag.Tag.the-variants as tag
 use Rattle.wire_value.specs.declared.Payload.the-variants.{Part}
 use Rattle.base_laws.proofs.Order.{both-true}
-use Rattle.base_laws.proofs.Parts.{length-part}
 use Rattle.wire_varint.proofs.Varints.{one-byte}
 use Rattle.wire_schema.proofs.Rows.{kinds}
-use Rattle.wire_check_field.proofs.Walk.{lies, tag-is}
+use Rattle.wire_check_field.proofs.Walk.{tag-is}
 use Rattle.wire_fast_client.specs.Plain.{byteIs, isIo, HasTag, Ends, TimeSaid, Tailed, IoSaid, IoTag, ClientSaid, withData}
 use Rattle.wire_fast_client.specs.declared.Ending.{Ending}
 use Rattle.wire_fast_client.specs.declared.Ending.the-variants as ending
@@ -52,6 +51,9 @@ io-tag t e =
 
 -- ---- the delay
 
+at-seconds : (s : List ℕ) → HasTag s 0 8 → times.Tag-at s 0 0 0 8 1
+at-seconds s k = record { going = times.start s; more = k .within; tagged = k .tagged }
+
 pub empty-time : (s : List ℕ) → length s ≡ 0 → TimeSaid s (time.Fine 0 0)
 unfolding TimeSaid
 empty-time s h = times.finish (times.start s) (omega arith)
@@ -60,36 +62,42 @@ pub only-nanos : (s : List ℕ) (r : Ending) → Ends s 0 r → (v : ℕ) → r 
 unfolding Ends TimeSaid
 only-nanos s r h v e =
     let k = subst (Ends s 0) e h in
-    times.finish (times.nano (times.start s) (k .0 .within) 16 1 (k .0 .tagged) refl v (length s) (k .1) .1) (omega arith)
+    let t : times.Tag-at s 0 0 0 16 1 = record { going = times.start s; more = k .0 .within; tagged = k .0 .tagged } in
+    times.finish (times.nano t refl (k .1) .1) (omega arith)
 
 pub only-seconds : (s : List ℕ) → HasTag s 0 8 → (v n : ℕ) → varintAt s 1 ≡ Value v n → n ≡ length s → TimeSaid s (time.Fine v 0)
 unfolding TimeSaid
-only-seconds s k v n e h = times.finish (times.second (times.start s) (k .within) 8 1 (k .tagged) refl v n e .1) (omega arith)
+only-seconds s k v n e h = times.finish (times.second (at-seconds s k) refl e .1) (omega arith)
 
 pub seconds-nanos : (s : List ℕ) → HasTag s 0 8 → (v n : ℕ) → varintAt s 1 ≡ Value v n → (r : Ending) → Ends s n r → (w : ℕ) → r ≡ ending.Nanos w
     → TimeSaid s (time.Fine v w)
 unfolding Ends TimeSaid
 seconds-nanos s k v n e r h w q =
     let l = subst (Ends s n) q h in
-    let g = times.second (times.start s) (k .within) 8 1 (k .tagged) refl v n e .1 in
-    times.finish (times.nano g (l .0 .within) 16 (n + 1) (l .0 .tagged) refl w (length s) (l .1) .1) (omega arith)
+    let g = times.second (at-seconds s k) refl e .1 in
+    let t : times.Tag-at s n v 0 16 (n + 1) = record { going = g; more = l .0 .within; tagged = l .0 .tagged } in
+    times.finish (times.nano t refl (l .1) .1) (omega arith)
 
 -- ---- the buffer
 
 data-behind : (s : List ℕ) (b x y : ℕ) → ios.Walked s b x y 0 0 → (r : Tail) → Tailed s b r → IoSaid s (withData x y r)
 unfolding Tailed IoSaid withData
-data-behind s b x y g (tail.Data c f) d = ios.finish (ios.ranged g (d .0 .within) 18 (b + 1) (d .0 .tagged) refl c f (d .1) .1) (omega arith)
+data-behind s b x y g (tail.Data c f) d =
+    let t : ios.Tag-at s b x y 0 0 18 (b + 1) = record { walked = g; more = d .0 .within; tagged = d .0 .tagged } in
+    ios.finish (ios.ranged t refl (d .1) .1) (omega arith)
 data-behind s b x y g tail.Nothing d = ios.finish g d
 data-behind s b x y g tail.Other d = tt
 
 module _ (s : List ℕ) (k : HasTag s 0 10) (a b : ℕ) (p : partOf s 1 (varintAt s 1) ≡ Part a b) where
+  at-delay : ios.Delay-at a b s 0 0 0 0 0 10 1
+  at-delay = record { tag = record { walked = ios.start s; more = k .within; tagged = k .tagged }; ten = refl; holds = p }
+
   pub delay-lies : (a ≤ b) × (b ≤ length s)
-  delay-lies = let z = lies 6 s 0 10 a b (k .within) (ios.delay-inside (ios.start s) (k .within) 10 1 (k .tagged) refl a b p) in (z .1, z .2)
+  delay-lies = ios.delay-lies at-delay
 
   pub delay-data : (t : PlainTime) → TimeSaid (part s a b) t → (x y : ℕ) → t ≡ time.Fine x y → (r : Tail) → Tailed s b r → IoSaid s (withData x y r)
   unfolding TimeSaid
-  delay-data t h x y e r d =
-      data-behind s b x y (ios.delayed (ios.start s) (k .within) 10 1 (k .tagged) refl a b p x y (sym (subst (TimeSaid (part s a b)) e h)) .1) r d
+  delay-data t h x y e r d = data-behind s b x y (ios.delayed at-delay (sym (subst (TimeSaid (part s a b)) e h)) .1) r d
 
 -- ---- the message
 
@@ -128,21 +136,21 @@ module _ (s : List ℕ) (t : ℕ) (h : IoTag t) (k : HasTag s 0 t) (a b : ℕ) (
   unfolding payloadAt
   holds = p
 
+  at-io : clients.Io-at a b s 0 clientread.NoMember (t / 8) 2 1
+  at-io = record {
+    bytes = record { field = record { told = clients.start s; more = k .within; tagged = tagged; fits = fits }; holds = holds };
+    io = io-kind t h;
+  }
+
   pub member-lies : (a ≤ b) × (b ≤ length s)
-  member-lies = let z = lies 0 s 0 _ a b (k .within) (clients.inside (clients.start s) (k .within) (t / 8) 2 1 tagged fits a b holds (omega (arith, io-kind t h))) in (z .1, z .2)
+  member-lies = clients.member-lies (clients.io-member at-io)
 
   pub member-io : b ≡ length s → (r : PlainIo) → IoSaid (part s a b) r → (x y c d : ℕ) → r ≡ io.Fine x y c d
       → ClientSaid s (client.Io (t / 8) x y (a + c) (a + d))
   unfolding IoSaid ClientSaid
-  member-io e r j x y c d q =
-      clients.finish
-      (clients.io-in (clients.start s) (k .within) (t / 8) 2 1 tagged fits a b holds (io-kind t h) x y c d (sym (subst (IoSaid (part s a b)) q j)) .1)
-      (omega arith)
+  member-io e r j x y c d q = clients.finish (clients.io-in at-io (sym (subst (IoSaid (part s a b)) q j)) .1) (omega arith)
 
   -- the data's places are the message's
   pub member-within : (r : PlainIo) → IoSaid (part s a b) r → (x y c d : ℕ) → r ≡ io.Fine x y c d → (a + c ≤ length s) × (a + d ≤ length s)
   unfolding IoSaid
-  member-within r j x y c d q =
-      let l = clients.io-lies (part s a b) x y c d (sym (subst (IoSaid (part s a b)) q j)) in
-      let n = length-part s a b (member-lies .0) (member-lies .1) in
-      (omega (arith, l .0, l .1, n, member-lies .0, member-lies .1), omega (arith, l .1, n, member-lies .0, member-lies .1))
+  member-within r j x y c d q = clients.io-lies at-io (sym (subst (IoSaid (part s a b)) q j))

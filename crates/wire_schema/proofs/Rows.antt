@@ -33,10 +33,6 @@ pub low-past : (m : ℕ) → 16 ≤ m → 0 ≡ lowOf m
 unfolding lowOf lows
 low-past m h = sym (List·getD-eq-default lows 0 h)
 
--- one further up, past a number that it is not
-pub up : (k m : ℕ) → k ≤ m → (m ≡ k → ⊥) → k + 1 ≤ m
-up k m h e = omega arith
-
 none : (k : ℕ) → 0 / k % 256 ≡ 0
 none k = rw (zero-div k)
 

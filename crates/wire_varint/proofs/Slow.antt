@@ -1,5 +1,5 @@
 -- A varint read byte by byte: the value so far, and the scale of what follows.
-use Prim.Native.Nat.{ℕ, zero, suc, _+_, _-_, _*_, _^_, _≤_}
+use Prim.Native.Nat.{ℕ, zero, suc, _+_, _-_, _*_, _^_, _≤_, _<_}
 use native.Mathlib.Omega.{arith}
 use native.Mathlib.Nat.{mul-assoc, add-mul, mul-le-mul-left, mul-le-mul-right}
 use mathlib.Core.Path.{_≡_, refl}
@@ -33,12 +33,12 @@ lim-two zero = lit≤ tt
 lim-two (suc k) = omega (arith, lim-two k)
 
 -- one more byte and one bit more have room above a scale that is not the last
-pub room : (k more : ℕ) → k * lim more ≡ 2 ^ 64 → (more ≡ 0 → ⊥) → k * 256 ≤ 2 ^ 64
+room : (k more : ℕ) → k * lim more ≡ 2 ^ 64 → (more ≡ 0 → ⊥) → k * 256 ≤ 2 ^ 64
 unfolding lim
 room k zero e h = absurd (h refl)
 room k (suc j) e h = let l : 256 ≤ 128 * lim j = omega (arith, lim-two j) in omega (arith, e, mul-le-mul-left k l)
 
-pub room-last : (k more : ℕ) → k * lim more ≡ 2 ^ 64 → more ≡ 0 → k * 2 ≤ 2 ^ 64
+room-last : (k more : ℕ) → k * lim more ≡ 2 ^ 64 → more ≡ 0 → k * 2 ≤ 2 ^ 64
 unfolding lim
 room-last k zero e h = omega (arith, e)
 room-last k (suc j) e h = absurd (omega arith)
@@ -48,6 +48,10 @@ unfolding lim
 room-next k zero e h = absurd (h refl)
 room-next k (suc j) e h = let f : suc j - 1 ≡ j = omega arith in rw f (omega (arith, e, mul-assoc k 128 (lim j)))
 
--- a byte's share of the scale
-pub share : (b k m : ℕ) → b ≤ m → b * k ≤ m * k
-share b k m h = mul-le-mul-right k h
+-- what a byte adds to the value, at the last place and before it, leaves it within 64 bits
+module _ (b k more v : ℕ) (e : k * lim more ≡ 2 ^ 64) (h : v < k) where
+  pub last-sum : more ≡ 0 → b ≤ 1 → v + b * k < 2 ^ 64
+  last-sum z l = omega (arith, room-last k more e z, mul-le-mul-right k l)
+
+  pub next-sum : (more ≡ 0 → ⊥) → b ≤ 127 → (v + b * k < k * 128) × (k * 256 ≤ 2 ^ 64)
+  next-sum n l = let r = room k more e n in (omega (arith, mul-le-mul-right k l), r)

@@ -1,7 +1,7 @@
 -- The walk over a client message: what holds at each field.
 use Prim.Native.Nat.{ℕ, _+_, _-_, _≤_, _<_}
 use native.Mathlib.Omega.{arith}
-use mathlib.Core.Path.{_≡_, refl, sym, _∙_}
+use mathlib.Core.Path.{_≡_, refl, sym, subst, _∙_}
 use mathlib.Core.List.{List}
 use mathlib.Core.Bool.{Bool, true, false}
 use lib.ListN.{length}
@@ -33,24 +33,25 @@ use Rattle.wire_types.specs.declared.Time.{Time}
 use Rattle.wire_walk_io.specs.declared.io.IoRead.the-variants as ioread
 use Rattle.wire_types.specs.declared.ClientRead.{ClientRead}
 use Rattle.wire_types.specs.declared.ClientRead.the-variants as client
-use Rattle.wire_check_field.proofs.Checks.{at-end}
+use Rattle.base_laws.proofs.Parts.{length-part}
+use Rattle.wire_check_field.proofs.Checks.{at-end, Placed, placed}
 use Rattle.wire_fields.proofs.Follow.{none, span-lies}
 use Rattle.wire_schema.proofs.Rows.{kinds}
-use Rattle.wire_check_field.proofs.Walk.{On, leads-on, ends-at, outside, inside-on, inside-stops, no-number, field-leads, field-inside, field-part}
+use Rattle.wire_check_field.proofs.Walk.{On, leads-on, ends-at, outside, inside-on, inside-stops, lies, no-number, field-leads, field-inside, field-part, field-stops}
 
 -- what an I/O buffer's walk says of its check and where its data lies
-pub io-fine : (c : Checked) (t : Time) (l : Last) (x y b d : ℕ) → ioRead c t l ≡ ioread.Fine x y b d → (c ≡ checked.Fine) × (startFrom l ≡ b) × (endFrom l ≡ d)
+io-fine : (c : Checked) (t : Time) (l : Last) (x y b d : ℕ) → ioRead c t l ≡ ioread.Fine x y b d → (c ≡ checked.Fine) × (startFrom l ≡ b) × (endFrom l ≡ d)
 unfolding ioRead
 io-fine checked.Fine t l x y b d e = (refl, cc, cc)
 io-fine (checked.Refused r p) t l x y b d e = let z : _≡_ {A = ℕ} 0 1 = cc in absurd (omega arith)
 
-pub io-bad : (c : Checked) (t : Time) (l : Last) (r p : ℕ) → ioRead c t l ≡ ioread.Refused r p → c ≡ checked.Refused r p
+io-bad : (c : Checked) (t : Time) (l : Last) (r p : ℕ) → ioRead c t l ≡ ioread.Refused r p → c ≡ checked.Refused r p
 unfolding ioRead
 io-bad checked.Fine t l r p e = let z : _≡_ {A = ℕ} 0 1 = cc in absurd (omega arith)
 io-bad (checked.Refused u v) t l r p e = let a : u ≡ r = cc in let b : v ≡ p = cc in rw (a, b)
 
-pub io-lies : (s : List ℕ) (x y b d : ℕ) → ioBufferOf s ≡ ioread.Fine x y b d → (b ≤ d) × (d ≤ length s)
-io-lies s x y b d e =
+data-lies : (s : List ℕ) (x y b d : ℕ) → ioBufferOf s ≡ ioread.Fine x y b d → (b ≤ d) × (d ≤ length s)
+data-lies s x y b d e =
     let h = io-fine (checkOf 6 s) (timeIn 1 s) (lastIn 2 2 s) x y b d e in
     let l = span-lies s 2 in
     (omega (arith, h .1, h .2, l .0), omega (arith, h .2, l .1))
@@ -152,48 +153,106 @@ module _ {s : List ℕ} {at : ℕ} {found : ClientRead} (g : Told s at found) wh
       },
     )
 
-    module _ (f w x : ℕ) (tagged : tagAt s at ≡ tag.Field f w x) (fits : takes (kindOf 0 f) w ≡ true) where
-      -- a field that is no member
-      passes : (n : ℕ) (p : Payload) → payloadAt s at x w ≡ p → stepOf (kindOf 0 f) p ≡ step.Next n → later 1 13 (g .kept) (fieldOf f p) ≡ g .kept → (at < n) × Told s n found
-      passes n p e h l = on n (fieldOf f p) found (leads-on (field-leads 0 s at f w x (omega arith) tagged fits n p e h) i) (rw l (g .kept-is))
+-- ---- a turn, by what it is at: a field that its kind takes, one with bytes, a member, an I/O buffer
 
-      pub number-passes : (v n : ℕ) → payloadAt s at x w ≡ payload.Number v n → (at < n) × Told s n found
-      unfolding stepOf
-      number-passes v n e = passes n (payload.Number v n) e refl (outside 1 13 f (payload.Number v n) (g .kept) (number-out s at f w x v n fits e))
+pub record Field-at (s : List ℕ) (at : ℕ) (found : ClientRead) (f w x : ℕ) : Type 0 where
+  pub told : Told s at found
+  pub more : at < length s
+  pub tagged : tagAt s at ≡ tag.Field f w x
+  pub fits : takes (kindOf 0 f) w ≡ true
 
-      pub fixed-passes : (n : ℕ) → payloadAt s at x w ≡ payload.Fixed n → (at < n) × Told s n found
-      unfolding stepOf fieldOf later
-      fixed-passes n e = passes n (payload.Fixed n) e refl refl
+pub record Part-at (a b : ℕ) (s : List ℕ) (at : ℕ) (found : ClientRead) (f w x : ℕ) : Type 0 where
+  pub field : Field-at s at found f w x
+  pub holds : payloadAt s at x w ≡ payload.Part a b
 
-      module _ (a b : ℕ) (e : payloadAt s at x w ≡ payload.Part a b) where
-        pub part-passes : kindOf 0 f < 16 → (at < b) × Told s b found
-        unfolding stepOf
-        part-passes h = passes b (payload.Part a b) e (rw (lt-leb _ _ h)) (outside 1 13 f (payload.Part a b) (g .kept) (passed f h))
+pub record Member-at (a b : ℕ) (s : List ℕ) (at : ℕ) (found : ClientRead) (f w x : ℕ) : Type 0 where
+  pub bytes : Part-at a b s at found f w x
+  pub inner : 16 ≤ kindOf 0 f
 
-        -- a member
-        module _ (h : 16 ≤ kindOf 0 f) where
-          pub inside : stepAt 0 s at ≡ step.Inside (kindOf 0 f - 16) a b
-          inside = field-inside 0 s at f w x (omega arith) tagged fits a b e h
+pub record Io-at (a b : ℕ) (s : List ℕ) (at : ℕ) (found : ClientRead) (f w x : ℕ) : Type 0 where
+  pub bytes : Part-at a b s at found f w x
+  pub io : kindOf 0 f ≡ 22
 
-          enters : (c : ClientRead) → checkOf (kindOf 0 f - 16) (part s a b) ≡ checked.Fine → memberRead f a b (eqb (kindOf 0 f) 22) (ioBufferOf (part s a b)) ≡ c → (at < b) × Told s b c
-          unfolding later clientFrom
-          enters c k q =
-              on b (field.Part f a b) c (inside-on 0 s at (kindOf 0 f - 16) a b i inside f (field-part 0 s at f w x (omega arith) tagged fits a b e) k)
-              (rw (entered f h) q)
+module _ {s : List ℕ} {at : ℕ} {found : ClientRead} {f w x : ℕ} (t : Field-at s at found f w x) where
+  -- a field that is no member
+  passes : (n : ℕ) (p : Payload) → payloadAt s at x w ≡ p → stepOf (kindOf 0 f) p ≡ step.Next n
+      → later 1 13 (t .told .kept) (fieldOf f p) ≡ t .told .kept → (at < n) × Told s n found
+  passes n p e h l =
+      on (t .told) (t .more) n (fieldOf f p) found
+      (leads-on (field-leads 0 s at f w x (omega arith) (t .tagged) (t .fits) n p e h) (t .more)) (rw l (t .told .kept-is))
 
-          pub inside-bad : (r p : ℕ) → checkOf (kindOf 0 f - 16) (part s a b) ≡ checked.Refused r p → client.Refused r (a + p) ≡ clientOf s
-          inside-bad r p k = stopped r (a + p) (inside-stops 0 s at (kindOf 0 f - 16) a b i inside r p k)
+  pub number-passes : {v n : ℕ} → payloadAt s at x w ≡ payload.Number v n → (at < n) × Told s n found
+  unfolding stepOf
+  number-passes {v} {n} e =
+      passes n (payload.Number v n) e refl (outside 1 13 f (payload.Number v n) (t .told .kept) (number-out s at f w x v n (t .fits) e))
 
-          pub other-in : (kindOf 0 f ≡ 22 → ⊥) → checkOf (kindOf 0 f - 16) (part s a b) ≡ checked.Fine → (at < b) × Told s b (client.Member f a b)
-          unfolding memberRead
-          other-in n k = enters (client.Member f a b) k (rw (ne-eqb (kindOf 0 f) 22 n))
+  pub fixed-passes : {n : ℕ} → payloadAt s at x w ≡ payload.Fixed n → (at < n) × Told s n found
+  unfolding stepOf fieldOf later
+  fixed-passes {n} e = passes n (payload.Fixed n) e refl refl
 
-        module _ (io : kindOf 0 f ≡ 22) where
-          pub io-in : (y z c d : ℕ) → ioBufferOf (part s a b) ≡ ioread.Fine y z c d → (at < b) × Told s b (client.Io f y z (a + c) (a + d))
-          unfolding memberRead
-          io-in y z c d k =
-              let h = io-fine (checkOf 6 (part s a b)) (timeIn 1 (part s a b)) (lastIn 2 2 (part s a b)) y z c d k in
-              enters (omega arith) (client.Io f y z (a + c) (a + d)) (rw io (h .0)) (rw (eq-eqb (kindOf 0 f) 22 io, k))
+  pub field-refused : {r p : ℕ} → payloadAt s at x w ≡ payload.Refused r p → client.Refused r p ≡ clientOf s
+  field-refused {r} {p} e = stop (t .told) (t .more) r p (field-stops 0 s at f w x (omega arith) (t .tagged) (t .fits) r p e)
 
-          pub io-stops : (r p : ℕ) → ioBufferOf (part s a b) ≡ ioread.Refused r p → client.Refused r (a + p) ≡ clientOf s
-          io-stops r p k = inside-bad (omega arith) r p (rw io (io-bad (checkOf 6 (part s a b)) (timeIn 1 (part s a b)) (lastIn 2 2 (part s a b)) r p k))
+module _ {a b : ℕ} {s : List ℕ} {at : ℕ} {found : ClientRead} {f w x : ℕ} where
+  pub part-passes : Part-at a b s at found f w x → kindOf 0 f < 16 → (at < b) × Told s b found
+  unfolding stepOf
+  part-passes t h =
+      passes (t .field) b (payload.Part a b) (t .holds) (rw (lt-leb _ _ h))
+      (outside 1 13 f (payload.Part a b) (t .field .told .kept) (passed f h))
+
+  module _ (t : Member-at a b s at found f w x) where
+    inside : stepAt 0 s at ≡ step.Inside (kindOf 0 f - 16) a b
+    inside = let u = t .bytes .field in field-inside 0 s at f w x (omega arith) (u .tagged) (u .fits) a b (t .bytes .holds) (t .inner)
+
+    pub member-lies : (a ≤ b) × (b ≤ length s)
+    member-lies = let z = lies 0 s at (kindOf 0 f - 16) a b (t .bytes .field .more) inside in (z .1, z .2)
+
+    -- a place in the member is one in the message
+    places : (p : ℕ) → p ≤ length (part s a b) → a + p ≤ length s
+    places p l = omega (arith, member-lies .0, member-lies .1, length-part s a b (member-lies .0) (member-lies .1))
+
+    enters : (c : ClientRead) → checkOf (kindOf 0 f - 16) (part s a b) ≡ checked.Fine
+        → memberRead f a b (eqb (kindOf 0 f) 22) (ioBufferOf (part s a b)) ≡ c → (at < b) × Told s b c
+    unfolding later clientFrom
+    enters c k q =
+        let u = t .bytes .field in
+        let is = field-part 0 s at f w x (omega arith) (u .tagged) (u .fits) a b (t .bytes .holds) in
+        on (u .told) (u .more) b (field.Part f a b) c (inside-on 0 s at (kindOf 0 f - 16) a b (u .more) inside f is k) (rw (entered f (t .inner)) q)
+
+    pub member-in : (kindOf 0 f ≡ 22 → ⊥) → checkOf (kindOf 0 f - 16) (part s a b) ≡ checked.Fine → (at < b) × Told s b (client.Member f a b)
+    unfolding memberRead
+    member-in n k = enters (client.Member f a b) k (rw (ne-eqb (kindOf 0 f) 22 n))
+
+    module _ {r p : ℕ} (k : checkOf (kindOf 0 f - 16) (part s a b) ≡ checked.Refused r p) where
+      pub member-refused : client.Refused r (a + p) ≡ clientOf s
+      member-refused =
+          let u = t .bytes .field in
+          stopped (u .told) r (a + p) (inside-stops 0 s at (kindOf 0 f - 16) a b (u .more) inside r p k)
+
+      pub member-place : a + p ≤ length s
+      member-place = places p (subst (Placed (part s a b)) k (placed (kindOf 0 f - 16) (part s a b) 0))
+
+  module _ (t : Io-at a b s at found f w x) where
+    pub io-member : Member-at a b s at found f w x
+    io-member = record { bytes = t .bytes; inner = omega (arith, t .io) }
+
+    pub io-in : {y z c d : ℕ} → ioBufferOf (part s a b) ≡ ioread.Fine y z c d → (at < b) × Told s b (client.Io f y z (a + c) (a + d))
+    unfolding memberRead
+    io-in {y} {z} {c} {d} k =
+        let h = io-fine (checkOf 6 (part s a b)) (timeIn 1 (part s a b)) (lastIn 2 2 (part s a b)) y z c d k in
+        enters io-member (client.Io f y z (a + c) (a + d)) (rw (t .io) (h .0)) (rw (eq-eqb (kindOf 0 f) 22 (t .io), k))
+
+    pub io-lies : {y z c d : ℕ} → ioBufferOf (part s a b) ≡ ioread.Fine y z c d → (a + c ≤ length s) × (a + d ≤ length s)
+    io-lies {y} {z} {c} {d} k =
+        let l = data-lies (part s a b) y z c d k in
+        (places io-member c (omega arith), places io-member d (l .1))
+
+    module _ {r p : ℕ} (k : ioBufferOf (part s a b) ≡ ioread.Refused r p) where
+      bad : checkOf (kindOf 0 f - 16) (part s a b) ≡ checked.Refused r p
+      bad = rw (t .io) (io-bad (checkOf 6 (part s a b)) (timeIn 1 (part s a b)) (lastIn 2 2 (part s a b)) r p k)
+
+      pub io-refused : client.Refused r (a + p) ≡ clientOf s
+      io-refused = member-refused io-member bad
+
+      pub io-place : a + p ≤ length s
+      io-place = member-place io-member bad

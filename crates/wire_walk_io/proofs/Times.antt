@@ -30,7 +30,7 @@ use Rattle.wire_check_field.proofs.Checks.{at-end}
 use Rattle.wire_fields.proofs.Follow.{none}
 use Rattle.wire_check_field.proofs.Walk.{alone}
 use Rattle.wire_schema.proofs.Rows.{kinds}
-use Rattle.wire_check_field.proofs.Walk.{Leads, further, checks-on, keeps-on, ends-at, outside, same-number, number-leads, number-past, number-long, rest-leads}
+use Rattle.wire_check_field.proofs.Walk.{Leads, further, checks-on, keeps-on, ends-at, outside, same-number, number-leads, number-past, number-long, no-tag, rest-leads, rest-stops}
 
 -- at a place of the walk: the check and the last numbers of the whole are those from here on
 pub record Going (s : List ℕ) (at sec nan : ℕ) : Type 0 where
@@ -69,11 +69,11 @@ module _ {s : List ℕ} {at sec nan : ℕ} (g : Going s at sec nan) where
       rw (c, a, b)
 
   module _ (i : at < length s) where
-    pub stop : (r p : ℕ) → stepAt 10 s at ≡ step.Refused r p → timeread.Refused r p ≡ timeSpecOf s
+    stop : (r p : ℕ) → stepAt 10 s at ≡ step.Refused r p → timeread.Refused r p ≡ timeSpecOf s
     unfolding timeRead
     stop r p e = let c : checkOf 10 s ≡ checked.Refused r p = sym (g .checks) ∙ ends-at 10 s at r p i e in rw c
 
-    pub on : (n sec' nan' : ℕ) (e : Field) → Leads 10 s at n e → later 1 1 (last.Number 1 sec) e ≡ last.Number 1 sec' → later 2 2 (last.Number 2 nan) e ≡ last.Number 2 nan'
+    on : (n sec' nan' : ℕ) (e : Field) → Leads 10 s at n e → later 1 1 (last.Number 1 sec) e ≡ last.Number 1 sec' → later 2 2 (last.Number 2 nan) e ≡ last.Number 2 nan'
         → (at < n) × Going s n sec' nan'
     on n sec' nan' e h p q = (
       further h i .0,
@@ -85,38 +85,58 @@ module _ {s : List ℕ} {at sec nan : ℕ} (g : Going s at sec nan) where
       },
     )
 
-    module _ (t x : ℕ) (tagged : varintAt s at ≡ Value t x) where
-      pub second : t ≡ 8 → (v n : ℕ) → varintAt s x ≡ Value v n → (at < n) × Going s n v nan
-      unfolding tagOf tagFits takes kindOf schema later among
-      second e v n h = on n v nan (field.Number 1 v n) (number-leads 10 s at t x (omega arith) tagged 1 (rw e) refl v n h) refl refl
+    -- a place that has no tag
+    pub tag-past : varintAt s at ≡ PastEnd → timeread.Refused 2 at ≡ timeSpecOf s
+    unfolding tagOf
+    tag-past e = stop 2 at (no-tag 10 s at (omega arith) PastEnd e refl)
 
-      pub nano : t ≡ 16 → (v n : ℕ) → varintAt s x ≡ Value v n → (at < n) × Going s n sec v
-      unfolding tagOf tagFits takes kindOf schema later among
-      nano e v n h = on n sec v (field.Number 2 v n) (number-leads 10 s at t x (omega arith) tagged 2 (rw e) refl v n h) refl refl
+    pub tag-long : varintAt s at ≡ TooLong → timeread.Refused 2 at ≡ timeSpecOf s
+    unfolding tagOf
+    tag-long e = stop 2 at (no-tag 10 s at (omega arith) TooLong e refl)
 
-      pub second-past : t ≡ 8 → varintAt s x ≡ PastEnd → timeread.Refused 2 x ≡ timeSpecOf s
-      unfolding tagOf tagFits takes kindOf schema
-      second-past e h = stop 2 x (number-past 10 s at t x (omega arith) tagged 1 (rw e) refl h)
+-- a turn that is at a tag
+pub record Tag-at (s : List ℕ) (at sec nan t x : ℕ) : Type 0 where
+  pub going : Going s at sec nan
+  pub more : at < length s
+  pub tagged : varintAt s at ≡ Value t x
 
-      pub second-long : t ≡ 8 → varintAt s x ≡ TooLong → timeread.Refused 2 x ≡ timeSpecOf s
-      unfolding tagOf tagFits takes kindOf schema
-      second-long e h = stop 2 x (number-long 10 s at t x (omega arith) tagged 1 (rw e) refl h)
+module _ {s : List ℕ} {at sec nan t x : ℕ} (g : Tag-at s at sec nan t x) where
+  pub second : t ≡ 8 → {v n : ℕ} → varintAt s x ≡ Value v n → (at < n) × Going s n v nan
+  unfolding tagOf tagFits takes kindOf schema later among
+  second e {v} {n} h =
+      on (g .going) (g .more) n v nan (field.Number 1 v n) (number-leads 10 s at t x (omega arith) (g .tagged) 1 (rw e) refl v n h) refl refl
 
-      pub nano-past : t ≡ 16 → varintAt s x ≡ PastEnd → timeread.Refused 2 x ≡ timeSpecOf s
-      unfolding tagOf tagFits takes kindOf schema
-      nano-past e h = stop 2 x (number-past 10 s at t x (omega arith) tagged 2 (rw e) refl h)
+  pub nano : t ≡ 16 → {v n : ℕ} → varintAt s x ≡ Value v n → (at < n) × Going s n sec v
+  unfolding tagOf tagFits takes kindOf schema later among
+  nano e {v} {n} h =
+      on (g .going) (g .more) n sec v (field.Number 2 v n) (number-leads 10 s at t x (omega arith) (g .tagged) 2 (rw e) refl v n h) refl refl
 
-      pub nano-long : t ≡ 16 → varintAt s x ≡ TooLong → timeread.Refused 2 x ≡ timeSpecOf s
-      unfolding tagOf tagFits takes kindOf schema
-      nano-long e h = stop 2 x (number-long 10 s at t x (omega arith) tagged 2 (rw e) refl h)
+  pub second-past : t ≡ 8 → varintAt s x ≡ PastEnd → timeread.Refused 2 x ≡ timeSpecOf s
+  unfolding tagOf tagFits takes kindOf schema
+  second-past e h = stop (g .going) (g .more) 2 x (number-past 10 s at t x (omega arith) (g .tagged) 1 (rw e) refl h)
 
-      -- a field of another number leads on and changes nothing
-      pub rest : (t ≡ 8 → ⊥) → (t ≡ 16 → ⊥) → (n : ℕ) → stepFrom 10 s at (tagOf (Value t x)) ≡ step.Next n → (at < n) × Going s n sec nan
-      rest a b n e =
-          let r = rest-leads 10 s at t x (omega arith) tagged n e in
-          on n sec nan (fieldOf (t / 8) (r .value)) (r .leads)
-          (outside 1 1 (t / 8) (r .value) (last.Number 1 sec) (other 1 (t / 8) (λ f. a (one t f (r .fits)))))
-          (outside 2 2 (t / 8) (r .value) (last.Number 2 nan) (other 2 (t / 8) (λ f. b (two t f (r .fits)))))
+  pub second-long : t ≡ 8 → varintAt s x ≡ TooLong → timeread.Refused 2 x ≡ timeSpecOf s
+  unfolding tagOf tagFits takes kindOf schema
+  second-long e h = stop (g .going) (g .more) 2 x (number-long 10 s at t x (omega arith) (g .tagged) 1 (rw e) refl h)
+
+  pub nano-past : t ≡ 16 → varintAt s x ≡ PastEnd → timeread.Refused 2 x ≡ timeSpecOf s
+  unfolding tagOf tagFits takes kindOf schema
+  nano-past e h = stop (g .going) (g .more) 2 x (number-past 10 s at t x (omega arith) (g .tagged) 2 (rw e) refl h)
+
+  pub nano-long : t ≡ 16 → varintAt s x ≡ TooLong → timeread.Refused 2 x ≡ timeSpecOf s
+  unfolding tagOf tagFits takes kindOf schema
+  nano-long e h = stop (g .going) (g .more) 2 x (number-long 10 s at t x (omega arith) (g .tagged) 2 (rw e) refl h)
+
+  -- a field of another number leads on and changes nothing
+  pub rest : (t ≡ 8 → ⊥) → (t ≡ 16 → ⊥) → {n : ℕ} → stepFrom 10 s at (tagOf (Value t x)) ≡ step.Next n → (at < n) × Going s n sec nan
+  rest a b {n} e =
+      let r = rest-leads 10 s at t x (omega arith) (g .tagged) n e in
+      on (g .going) (g .more) n sec nan (fieldOf (t / 8) (r .value)) (r .leads)
+      (outside 1 1 (t / 8) (r .value) (last.Number 1 sec) (other 1 (t / 8) (λ f. a (one t f (r .fits)))))
+      (outside 2 2 (t / 8) (r .value) (last.Number 2 nan) (other 2 (t / 8) (λ f. b (two t f (r .fits)))))
+
+  pub rest-refused : {r p : ℕ} → stepFrom 10 s at (tagOf (Value t x)) ≡ step.Refused r p → timeread.Refused r p ≡ timeSpecOf s
+  rest-refused {r} {p} e = stop (g .going) (g .more) r p (rest-stops 10 s at t x (omega arith) (g .tagged) r p e)
 
 -- no field of a TimeSpec is entered
 flat : ℕ → ℕ → Bool

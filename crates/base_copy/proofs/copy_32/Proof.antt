@@ -1,3 +1,4 @@
+-- The second block is stored where the first one ends: Halves.block-on makes them one of 32.
 use mathlib.Core.Path.{ap, _∙_}
 use Prim.Native.Nat.{ℕ, _+_}
 use mathlib.Core.List.{List}
@@ -9,9 +10,11 @@ use Rattle.base_copy.proofs.copy_32.Tie as tie
 
 returns : tie.Need-returns
 returns c =
-    let a = c .before .before .before .before .before .before .before .before .before .before .args in
-    c .before .before .copy-block2 .ensures
-    ∙ ap (λ (x : List ℕ). blockStored x (a .o + 16) (a .bytes .now) (a .j + 16) 15) (c .before .before .before .before .before .before .copy-block .ensures)
+    let at-copy-block2 = c .before .before in
+    let at-copy-block = at-copy-block2 .before .before .before .before in
+    let a = at-copy-block .before .before .before .before .args in
+    at-copy-block2 .copy-block2 .ensures
+    ∙ ap (λ (x : List ℕ). blockStored x (a .o + 16) (a .bytes .now) (a .j + 16) 15) (at-copy-block .copy-block .ensures)
     ∙ block-on (a .area .now) (a .o) (a .bytes .now) (a .j) 15 15
 
 pub copy-32-spec : {M : Type 1} → statement M

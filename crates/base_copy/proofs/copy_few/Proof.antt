@@ -1,4 +1,4 @@
--- The invariant: the first i bytes are copied.
+-- The loop keeps "the first i bytes are pasted"; a turn is `paste-suc`, the end Blocks.paste-splice.
 use mathlib.Core.Path.{_≡_, refl, sym, ap, _∙_}
 use Prim.Native.Nat.{ℕ, _+_, _-_, _≤_}
 use native.Mathlib.Numerals.{add-one}

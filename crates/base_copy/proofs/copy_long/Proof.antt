@@ -1,3 +1,4 @@
+-- The rest behind the whole pages is Blocks.part-on, by what copy_pages and copy_few ensure.
 use mathlib.Core.Path.{ap, _∙_}
 use native.Mathlib.Omega.{arith}
 use lib.ListN.{length}
@@ -10,9 +11,12 @@ use Rattle.base_copy.proofs.copy_long.Tie as tie
 
 returns : tie.Need-returns
 returns c =
-    let a = c .before .before .before .before .before .before .before .before .before .before .before .args in
-    let pages = c .before .before .before .before .before .before .before .copy-pages in
-    part-on (a .area .now) _ _ (a .at) (a .bytes .now) (pages .result) (length (a .bytes .now)) (omega (arith, pages .ensures .0)) (omega arith) (omega arith) (pages .ensures .1) (c .before .before .copy-few .ensures)
+    let at-copy-few = c .before .before in
+    let at-copy-pages = at-copy-few .before .before .before .before .before in
+    let a = at-copy-pages .before .before .before .before .args in
+    let pages = at-copy-pages .copy-pages in
+    part-on (a .area .now) _ _ (a .at) (a .bytes .now) (pages .result) (length (a .bytes .now)) (omega (arith, pages .ensures .0))
+    (omega arith) (omega arith) (pages .ensures .1) (at-copy-few .copy-few .ensures)
     ∙ ap (splice (a .area .now) (a .at)) (take-length (a .bytes .now))
 
 pub copy-long-spec : {M : Type 1} → statement M

@@ -1,3 +1,4 @@
+-- The loop keeps "the first j bytes are pasted"; a turn is Blocks.block-to, the block laid over the end Blocks.laid-over.
 use mathlib.Core.Path.{_≡_, refl, _∙_}
 use Prim.Native.Nat.{_+_, _-_, _≤_}
 use native.Mathlib.Omega.{arith}
@@ -19,19 +20,28 @@ loop-holds c = let a = c .before .before .args in (omega arith, paste-zero (a .a
 
 loop-again : tie.Need-loop-again Inv-loop μ-loop
 loop-again c =
-    let l = c .before .before .before .before .before .loop in
-    let a = c .before .before .before .before .before .before .before .before .args in (
+    let at-copy-block = c .before .before in
+    let at-loop = at-copy-block .before .before .before in
+    let at-start = at-loop .before .before .before in
+    let l = at-loop .loop in
+    let a = at-start .args in (
       omega arith,
-      c .before .before .copy-block .ensures ∙ block-to (a .area .now) (l .area) (a .at) (a .bytes .now) (l .j) (l .j) 15 (l .j + 16) (l .inv .1) (omega arith) (omega arith) (omega arith) (omega arith) (omega arith),
+      at-copy-block .copy-block .ensures
+          ∙ block-to (a .area .now) (l .area) (a .at) (a .bytes .now) (l .j) (l .j) 15 (l .j + 16) (l .inv .1) (omega arith) (omega arith)
+          (omega arith) (omega arith) (omega arith),
       search needs,
     )
 
 returns : tie.Need-returns Inv-loop μ-loop
 returns c =
-    let l = c .before .before .before .before .before .before .loop in
-    let a = c .before .before .before .before .before .before .before .before .before .args in
-    c .before .before .copy-block2 .ensures
-    ∙ laid-over (a .area .now) (l .area) (a .at) (a .bytes .now) (l .j) 15 (l .inv .1) (omega arith) (omega arith) (omega arith) (omega arith)
+    let at-copy-block2 = c .before .before in
+    let at-loop = at-copy-block2 .before .before .before .before in
+    let at-start = at-loop .before .before .before in
+    let l = at-loop .loop in
+    let a = at-start .args in
+    at-copy-block2 .copy-block2 .ensures
+    ∙ laid-over (a .area .now) (l .area) (a .at) (a .bytes .now) (l .j) 15 (l .inv .1) (omega arith) (omega arith) (omega arith)
+    (omega arith)
 
 returns-2 : tie.Need-returns-2 Inv-loop μ-loop
 returns-2 c =

@@ -1,3 +1,4 @@
+-- The loop keeps "j bytes, whole pages, are spliced in"; a turn is Blocks.part-on.
 use mathlib.Core.Path.{_≡_, refl, _∙_}
 use Prim.Native.Nat.{_+_, _-_, _%_, _≤_}
 use native.Mathlib.Omega.{arith}
@@ -25,10 +26,14 @@ loop-holds c =
 
 loop-again : tie.Need-loop-again Inv-loop μ-loop
 loop-again c =
-    let l = c .before .before .before .before .before .before .loop in
-    let a = c .before .before .before .before .before .before .before .before .before .args in (
+    let at-copy-page = c .before .before in
+    let at-loop = at-copy-page .before .before .before .before in
+    let at-start = at-loop .before .before .before in
+    let l = at-loop .loop in
+    let a = at-start .args in (
       (omega arith, omega arith),
-      part-on (a .area .now) (l .area) _ (a .at) (a .bytes .now) (l .j) (l .j + 16384) (omega arith) (omega arith) (omega arith) (l .inv .1) (c .before .before .copy-page .ensures),
+      part-on (a .area .now) (l .area) _ (a .at) (a .bytes .now) (l .j) (l .j + 16384) (omega arith) (omega arith) (omega arith)
+          (l .inv .1) (at-copy-page .copy-page .ensures),
       search needs,
     )
 

@@ -1,3 +1,4 @@
+-- The bound is the slice's own: each element of a slice of bytes fits a byte.
 use native.Mathlib.Omega.{arith}
 use borrow.Author.Needs.{needs}
 use Rattle.base_numbers.proofs.byte.Statement.{statement}

@@ -1,3 +1,4 @@
+-- With room it is Lay.has-room over what put_five ensures, without Lay.no-room.
 use mathlib.Core.List.{[], _∷_}
 use Rattle.base_numbers.proofs.Lay.{has-room, no-room}
 use borrow.Author.Needs.{needs}
@@ -5,7 +6,11 @@ use Rattle.base_numbers.proofs.lay_five.Statement.{statement}
 use Rattle.base_numbers.proofs.lay_five.Tie as tie
 
 returns : tie.Need-returns
-returns c = let a = c .before .before .before .before .before .before .args in has-room (a .a ∷ a .b ∷ a .c ∷ a .d ∷ a .e ∷ []) (a .out .now) _ (c .before .before .before .before .if1 .taken) (c .before .before .put-five .ensures)
+returns c =
+    let at-put-five = c .before .before in
+    let at-if1 = at-put-five .before .before in
+    let a = at-if1 .before .before .args in
+    has-room (a .a ∷ a .b ∷ a .c ∷ a .d ∷ a .e ∷ []) (a .out .now) _ (at-if1 .if1 .taken) (at-put-five .put-five .ensures)
 
 returns-2 : tie.Need-returns-2
 returns-2 c = let a = c .before .before .args in no-room (a .a ∷ a .b ∷ a .c ∷ a .d ∷ a .e ∷ []) (a .out .now) (c .if1 .left)

@@ -1,3 +1,4 @@
+-- The code's two tests are the definition's one, `at + 8 ≤ length`: lt-leb where it fails, le-leb where it holds.
 use Prim.Native.Nat.{_+_}
 use native.Mathlib.Omega.{arith}
 use lib.ListN.{length}

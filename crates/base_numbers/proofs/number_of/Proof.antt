@@ -1,3 +1,4 @@
+-- Two fours read least significant first and turned are the number: Turn.read-turned.
 use Rattle.base_numbers.proofs.Turn.{read-turned}
 use mathlib.Core.Path.{_∙_}
 use borrow.Author.Needs.{needs}

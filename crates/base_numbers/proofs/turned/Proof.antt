@@ -1,3 +1,4 @@
+-- The quotients and remainders are those of the definition `turned`: omega.
 use Rattle.base_numbers.specs.Eight.{turned}
 use native.Mathlib.Omega.{arith}
 use borrow.Author.Needs.{needs}

@@ -4,19 +4,8 @@ use borrow.Author.Needs.{needs}
 use Rattle.c_read.proofs.member_among.Statement.{statement}
 use Rattle.c_read.proofs.member_among.Tie as tie
 
-returns : tie.Need-returns
-unfolding memberFrom
-returns c = rw (sym (c .before .before .last-in .ensures) ∙ c .enum-told .given .1)
-
-returns-2 : tie.Need-returns-2
-unfolding memberFrom
-returns-2 c = rw (sym (c .before .before .before .last-in .ensures) ∙ c .before .number .given .1)
-
-returns-3 : tie.Need-returns-3
-unfolding memberFrom
-returns-3 c = rw (sym (c .before .before .before .last-in .ensures) ∙ c .before .number2 .given .1)
-
 pub member-among-spec : {M : Type 1} → statement M
+unfolding memberFrom
 member-among-spec =
     tie.close
     (tie.spec
@@ -24,6 +13,6 @@ member-among-spec =
     (λ c. search needs)
     (λ c. search needs)
     (λ c. search needs)
-    returns
-    returns-2
-    returns-3)
+    (λ c. rw (sym (c .before .before .last-in .ensures) ∙ c .enum-told .given .1))
+    (λ c. rw (sym (c .before .before .before .last-in .ensures) ∙ c .before .number .given .1))
+    (λ c. rw (sym (c .before .before .before .last-in .ensures) ∙ c .before .number2 .given .1)))

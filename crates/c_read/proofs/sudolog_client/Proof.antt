@@ -6,19 +6,51 @@ use Rattle.c_read.proofs.sudolog_client.Tie as tie
 
 returns : tie.Need-returns
 unfolding clientAnswer clientBuffer clientNumbers
-returns c = let e = sym (c .before .before .before .before .before .before .before .before .before .client-message .ensures .0) ∙ c .before .before .before .before .before .before .before .member .given .1 in (rw (e, sym (c .before .before .before .lay-five .ensures .0) ∙ c .if1 .taken), rw (e, ← c .before .before .before .before .before .between .ensures) (c .before .before .before .lay-five .ensures .1))
+returns c =
+    let at-lay-five = c .before .before .before in
+    let at-between = at-lay-five .before .before in
+    let at-member = at-between .before .before in
+    let at-client-message = at-member .before .before in
+    let e = sym (at-client-message .client-message .ensures .0) ∙ at-member .member .given .1 in (
+      rw (e, sym (at-lay-five .lay-five .ensures .0) ∙ c .if1 .taken),
+      rw (e, ← at-between .between .ensures) (at-lay-five .lay-five .ensures .1),
+    )
 
 returns-2 : tie.Need-returns-2
 unfolding clientAnswer clientBuffer clientNumbers
-returns-2 c = let e = sym (c .before .before .before .before .before .before .before .before .before .client-message .ensures .0) ∙ c .before .before .before .before .before .before .before .member2 .given .1 in (rw (e, sym (c .before .before .before .lay-five2 .ensures .0) ∙ c .if2 .taken), rw (e, ← c .before .before .before .before .before .between2 .ensures) (c .before .before .before .lay-five2 .ensures .1))
+returns-2 c =
+    let at-lay-five2 = c .before .before .before in
+    let at-between2 = at-lay-five2 .before .before in
+    let at-member2 = at-between2 .before .before in
+    let at-client-message = at-member2 .before .before in
+    let e = sym (at-client-message .client-message .ensures .0) ∙ at-member2 .member2 .given .1 in (
+      rw (e, sym (at-lay-five2 .lay-five2 .ensures .0) ∙ c .if2 .taken),
+      rw (e, ← at-between2 .between2 .ensures) (at-lay-five2 .lay-five2 .ensures .1),
+    )
 
 returns-3 : tie.Need-returns-3
 unfolding clientAnswer clientBuffer clientNumbers
-returns-3 c = let e = sym (c .before .before .before .before .before .before .before .before .before .client-message .ensures .0) ∙ c .before .before .before .before .before .before .before .member .given .1 in (rw (e, sym (c .before .before .before .lay-five .ensures .0) ∙ c .if1 .left), rw (e, ← c .before .before .before .before .before .between .ensures) (c .before .before .before .lay-five .ensures .1))
+returns-3 c =
+    let at-lay-five = c .before .before .before in
+    let at-between = at-lay-five .before .before in
+    let at-member = at-between .before .before in
+    let at-client-message = at-member .before .before in
+    let e = sym (at-client-message .client-message .ensures .0) ∙ at-member .member .given .1 in (
+      rw (e, sym (at-lay-five .lay-five .ensures .0) ∙ c .if1 .left),
+      rw (e, ← at-between .between .ensures) (at-lay-five .lay-five .ensures .1),
+    )
 
 returns-4 : tie.Need-returns-4
 unfolding clientAnswer clientBuffer clientNumbers
-returns-4 c = let e = sym (c .before .before .before .before .before .before .before .before .before .client-message .ensures .0) ∙ c .before .before .before .before .before .before .before .member2 .given .1 in (rw (e, sym (c .before .before .before .lay-five2 .ensures .0) ∙ c .if2 .left), rw (e, ← c .before .before .before .before .before .between2 .ensures) (c .before .before .before .lay-five2 .ensures .1))
+returns-4 c =
+    let at-lay-five2 = c .before .before .before in
+    let at-between2 = at-lay-five2 .before .before in
+    let at-member2 = at-between2 .before .before in
+    let at-client-message = at-member2 .before .before in
+    let e = sym (at-client-message .client-message .ensures .0) ∙ at-member2 .member2 .given .1 in (
+      rw (e, sym (at-lay-five2 .lay-five2 .ensures .0) ∙ c .if2 .left),
+      rw (e, ← at-between2 .between2 .ensures) (at-lay-five2 .lay-five2 .ensures .1),
+    )
 
 returns-5 : tie.Need-returns-5
 unfolding clientAnswer clientBuffer

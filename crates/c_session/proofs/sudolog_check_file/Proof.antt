@@ -4,19 +4,15 @@ use borrow.Author.Needs.{needs}
 use Rattle.c_session.proofs.sudolog_check_file.Statement.{statement}
 use Rattle.c_session.proofs.sudolog_check_file.Tie as tie
 
-returns : tie.Need-returns
-unfolding fileNumber
-returns c = rw (sym (c .before .before .check-file .ensures) ∙ c .enum-told .given .1)
-
-returns-2 : tie.Need-returns-2
-unfolding fileNumber
-returns-2 c = rw (sym (c .before .before .check-file .ensures) ∙ c .enum-told2 .given .1)
-
-returns-3 : tie.Need-returns-3
-unfolding fileNumber
-returns-3 c = rw (sym (c .before .before .before .check-file .ensures) ∙ c .before .n .given .1)
-
 pub sudolog-check-file-spec : {M : Type 1} → statement M
+unfolding fileNumber
 sudolog-check-file-spec =
     tie.close
-    (tie.spec (λ c κs. search needs) (λ c. search needs) (λ c. search needs) (λ c. search needs) returns returns-2 returns-3)
+    (tie.spec
+    (λ c κs. search needs)
+    (λ c. search needs)
+    (λ c. search needs)
+    (λ c. search needs)
+    (λ c. rw (sym (c .before .before .check-file .ensures) ∙ c .enum-told .given .1))
+    (λ c. rw (sym (c .before .before .check-file .ensures) ∙ c .enum-told2 .given .1))
+    (λ c. rw (sym (c .before .before .before .check-file .ensures) ∙ c .before .n .given .1)))

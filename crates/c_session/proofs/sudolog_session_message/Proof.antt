@@ -4,11 +4,24 @@ use Rattle.c_session.proofs.sudolog_session_message.Statement.{statemen
 use Rattle.c_session.proofs.sudolog_session_message.Tie as tie
 
 returns : tie.Need-returns
-returns c = let a = c .before .before .before .before .before .args in no-room (a .slice .now) (a .s .now) (a .area .now) (a .used) (a .out .now) (c .if1 .taken)
+returns c =
+    let a = c .before .before .before .before .before .args in
+    no-room (a .slice .now) (a .s .now) (a .area .now) (a .used) (a .out .now) (c .if1 .taken)
 
 returns-2 : tie.Need-returns-2
-returns-2 c = let a = c .before .before .before .before .before .before .before .before .before .before .before .before .before .before .before .before .before .before .before .before .before .before .before .before .args in
-    answered (a .slice .now) (a .s .now) (a .area .now) (a .used) (a .out .now) _ _ _ _ _ (c .before .before .before .before .before .before .before .before .before .before .before .before .before .before .before .before .before .load .ensures) (c .before .before .before .before .before .before .before .before .before .before .before .before .before .before .before .message .ensures) (c .before .before .before .before .before .before .before .before .before .before .before .before .before .before .before .before .before .before .before .if1 .left) _ _ _ (c .before .before .before .before .before .before .before .before .before .before .save .ensures .1) (c .before .before .before .before .before .has-point .ensures) (c .before .before .before .before .point-number .ensures) (c .before .before .before .state-number .ensures) (c .before .before .lay-five .ensures .1)
+returns-2 c =
+    let at-lay-five = c .before .before in
+    let at-state-number = at-lay-five .before in
+    let at-point-number = at-state-number .before in
+    let at-has-point = at-point-number .before in
+    let at-save = at-has-point .before .before .before .before .before in
+    let at-message = at-save .before .before .before .before .before in
+    let at-load = at-message .before .before in
+    let at-if1 = at-load .before .before in
+    let a = at-if1 .before .before .before .before .before .args in
+    answered (a .slice .now) (a .s .now) (a .area .now) (a .used) (a .out .now) _ _ _ _ _ (at-load .load .ensures)
+    (at-message .message .ensures) (at-if1 .if1 .left) _ _ _ (at-save .save .ensures .1) (at-has-point .has-point .ensures)
+    (at-point-number .point-number .ensures) (at-state-number .state-number .ensures) (at-lay-five .lay-five .ensures .1)
 
 pub sudolog-session-message-spec : {M : Type 1} → statement M
 sudolog-session-message-spec =

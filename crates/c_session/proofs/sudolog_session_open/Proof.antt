@@ -6,10 +6,22 @@ use Rattle.c_session.proofs.sudolog_session_open.Statement.{statement}
 use Rattle.c_session.proofs.sudolog_session_open.Tie as tie
 
 returns : tie.Need-returns
-returns c = let a = c .before .before .before .before .before .before .before .args in (rw (sym (c .before .before .before .save .ensures .0) ∙ c .if1 .taken), c .before .before .before .save .ensures .1 ∙ ap (λ (x : Session). kept x (a .slice .now)) (c .before .before .before .before .«open» .ensures))
+returns c =
+    let at-save = c .before .before .before in
+    let at-4 = at-save .before in
+    let a = at-4 .before .before .before .args in (
+      rw (sym (at-save .save .ensures .0) ∙ c .if1 .taken),
+      at-save .save .ensures .1 ∙ ap (λ (x : Session). kept x (a .slice .now)) (at-4 .«open» .ensures),
+    )
 
 returns-2 : tie.Need-returns-2
-returns-2 c = let a = c .before .before .before .before .before .before .before .args in (rw (sym (c .before .before .before .save .ensures .0) ∙ c .if1 .left), c .before .before .before .save .ensures .1 ∙ ap (λ (x : Session). kept x (a .slice .now)) (c .before .before .before .before .«open» .ensures))
+returns-2 c =
+    let at-save = c .before .before .before in
+    let at-4 = at-save .before in
+    let a = at-4 .before .before .before .args in (
+      rw (sym (at-save .save .ensures .0) ∙ c .if1 .left),
+      at-save .save .ensures .1 ∙ ap (λ (x : Session). kept x (a .slice .now)) (at-4 .«open» .ensures),
+    )
 
 pub sudolog-session-open-spec : {M : Type 1} → statement M
 sudolog-session-open-spec =

@@ -11,7 +11,11 @@ returns c = rw (sym (c .before .before .tick .ensures ∙ ap tick (c .before .be
 
 returns-2 : tie.Need-returns-2
 unfolding tickNumber
-returns-2 c = rw (sym (c .before .before .before .tick .ensures ∙ ap tick (c .before .before .before .before .load .ensures)) ∙ c .before .t .given .1)
+returns-2 c =
+    let at-t = c .before in
+    let at-tick = at-t .before .before in
+    let at-load = at-tick .before in
+    rw (sym (at-tick .tick .ensures ∙ ap tick (at-load .load .ensures)) ∙ at-t .t .given .1)
 
 pub sudolog-session-tick-spec : {M : Type 1} → statement M
 sudolog-session-tick-spec =

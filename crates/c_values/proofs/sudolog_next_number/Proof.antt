@@ -7,15 +7,33 @@ use Rattle.c_values.proofs.sudolog_next_number.Tie as tie
 
 returns : tie.Need-returns
 unfolding told
-returns c = let a = c .before .before .before .before .before .before .before .before .before .before .before .args in number-laid (a .s .now) (a .at) (a .end) (a .out .now) _ _ _ (ap (told (a .s .now)) (sym (c .before .before .before .before .before .before .value .given .1)) ∙ c .before .before .before .before .before .before .before .before .next-number .ensures) _ (sym (c .before .before .before .lay-three .ensures .0) ∙ c .if1 .taken) (c .before .before .before .lay-three .ensures .1)
+returns c =
+    let at-lay-three = c .before .before .before in
+    let at-value = at-lay-three .before .before .before in
+    let at-next-number = at-value .before .before in
+    let a = at-next-number .before .before .before .args in
+    number-laid (a .s .now) (a .at) (a .end) (a .out .now) _ _ _
+    (ap (told (a .s .now)) (sym (at-value .value .given .1)) ∙ at-next-number .next-number .ensures) _
+    (sym (at-lay-three .lay-three .ensures .0) ∙ c .if1 .taken) (at-lay-three .lay-three .ensures .1)
 
 returns-2 : tie.Need-returns-2
 unfolding told
-returns-2 c = let a = c .before .before .before .before .before .before .before .before .before .before .before .args in no-room (a .s .now) (a .at) (a .end) (a .out .now) _ _ _ (ap (told (a .s .now)) (sym (c .before .before .before .before .before .before .value .given .1)) ∙ c .before .before .before .before .before .before .before .before .next-number .ensures) _ (sym (c .before .before .before .lay-three .ensures .0) ∙ c .if1 .left) (c .before .before .before .lay-three .ensures .1)
+returns-2 c =
+    let at-lay-three = c .before .before .before in
+    let at-value = at-lay-three .before .before .before in
+    let at-next-number = at-value .before .before in
+    let a = at-next-number .before .before .before .args in
+    no-room (a .s .now) (a .at) (a .end) (a .out .now) _ _ _
+    (ap (told (a .s .now)) (sym (at-value .value .given .1)) ∙ at-next-number .next-number .ensures) _
+    (sym (at-lay-three .lay-three .ensures .0) ∙ c .if1 .left) (at-lay-three .lay-three .ensures .1)
 
 returns-3 : tie.Need-returns-3
 unfolding told
-returns-3 c = let a = c .before .before .before .before .before .args in none-left (a .s .now) (a .at) (a .end) (a .out .now) (ap (told (a .s .now)) (sym (c .enum-told .given .1)) ∙ c .before .before .next-number .ensures)
+returns-3 c =
+    let at-next-number = c .before .before in
+    let a = at-next-number .before .before .before .args in
+    none-left (a .s .now) (a .at) (a .end) (a .out .now)
+    (ap (told (a .s .now)) (sym (c .enum-told .given .1)) ∙ at-next-number .next-number .ensures)
 
 pub sudolog-next-number-spec : {M : Type 1} → statement M
 sudolog-next-number-spec =

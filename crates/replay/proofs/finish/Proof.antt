@@ -6,7 +6,10 @@ use Rattle.replay.proofs.finish.Statement.{statement}
 use Rattle.replay.proofs.finish.Tie as tie
 
 slice-aggregate-write-all : tie.Need-slice-aggregate-write-all
-slice-aggregate-write-all c = let e = c .before .before .before .end-line in sym (length-take-le (e .result) (e .last .0) (omega (arith, e .kept .0, e .ensures .1 .1)))
+slice-aggregate-write-all c =
+    let at-end-line = c .before .before .before in
+    let e = at-end-line .end-line in
+    sym (length-take-le (e .result) (e .last .0) (omega (arith, e .kept .0, e .ensures .1 .1)))
 
 pub finish-spec : {M : Type 1} → statement M
 finish-spec =

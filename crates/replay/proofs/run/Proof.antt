@@ -19,18 +19,41 @@ abbrev μ-loop : tie.MeasureT-loop
 μ-loop window₀ area₀ out₀ re₀ from₀ held₀ turns₀ window area out re from held turns = turns
 
 slice-aggregate-write-all : tie.Need-slice-aggregate-write-all Inv-loop μ-loop
-slice-aggregate-write-all c = let t = c .before .before .before .before .before .turn in sym (length-take-le (t .result .line) (t .last .1 .1 .1 .1 .0) (omega (arith, t .kept .1 .1 .1 .1 .0, t .ensures .1 .1 .1 .1 .1 .0)))
+slice-aggregate-write-all c =
+    let at-turn = c .before .before .before .before .before in
+    let t = at-turn .turn in
+    sym
+    (length-take-le (t .result .line) (t .last .1 .1 .1 .1 .0) (omega (arith, t .kept .1 .1 .1 .1 .0, t .ensures .1 .1 .1 .1 .1 .0)))
 
 add-from : tie.Need-add-from Inv-loop μ-loop
 unfolding Within
-add-from c = let w = c .before .before .before .before .before .before .before .before .before .before .before .before .before .before .before .before .before .loop in let h = subst (Within (length (part (w .window) (w .from) (w .held)))) (c .before .next .given .1) (c .before .before .before .before .before .before .before .before .before .before .before .turn .ensures .1 .1 .1 .1 .1 .1) in let l = length-part (w .window) (w .from) (w .held) (w .inv .0) (w .inv .1) in omega (arith, c .before .before .before .before .before .before .before .before .before .before .before .before .before .before .before .before .before .before .before .before .before .before .good .0 .0)
+add-from c =
+    let at-next = c .before in
+    let at-turn = at-next .before .before .before .before .before .before .before .before .before .before in
+    let at-loop = at-turn .before .before .before .before .before .before in
+    let at-start = at-loop .before .before .before .before .before in
+    let w = at-loop .loop in
+    let h = subst (Within (length (part (w .window) (w .from) (w .held)))) (at-next .next .given .1)
+    (at-turn .turn .ensures .1 .1 .1 .1 .1 .1) in
+    let l = length-part (w .window) (w .from) (w .held) (w .inv .0) (w .inv .1) in
+    omega (arith, at-start .good .0 .0)
 
 loop-again : tie.Need-loop-again Inv-loop μ-loop
 unfolding Within
-loop-again c = let w = c .before .before .before .before .before .before .before .before .before .before .before .before .before .before .before .before .before .loop in let h = subst (Within (length (part (w .window) (w .from) (w .held)))) (c .before .next .given .1) (c .before .before .before .before .before .before .before .before .before .before .before .turn .ensures .1 .1 .1 .1 .1 .1) in let l = length-part (w .window) (w .from) (w .held) (w .inv .0) (w .inv .1) in (omega arith, w .inv .1, w .inv .2, omega arith, omega arith)
+loop-again c =
+    let at-next = c .before in
+    let at-turn = at-next .before .before .before .before .before .before .before .before .before .before in
+    let at-loop = at-turn .before .before .before .before .before .before in
+    let w = at-loop .loop in
+    let h = subst (Within (length (part (w .window) (w .from) (w .held)))) (at-next .next .given .1)
+    (at-turn .turn .ensures .1 .1 .1 .1 .1 .1) in
+    let l = length-part (w .window) (w .from) (w .held) (w .inv .0) (w .inv .1) in
+    (omega arith, w .inv .1, w .inv .2, omega arith, omega arith)
 
 add-held : tie.Need-add-held Inv-loop μ-loop
-add-held c = omega (arith, c .before .before .before .before .before .before .before .before .before .before .before .before .before .before .before .before .before .before .before .before .before .before .before .before .before .before .before .before .before .before .good .0 .0)
+add-held c =
+    let at-start = c .before .before .before .before .before .before .before .before .before .before .before .before .before .before .before .before .before .before .before .before .before .before .before .before .before .before .before .before .before .before in
+    omega (arith, at-start .good .0 .0)
 
 pub run-spec : {M : Type 1} → statement M
 run-spec =

@@ -4,13 +4,6 @@ use borrow.Author.Needs.{needs}
 use Rattle.replay_turn.proofs.counted.Statement.{statement}
 use Rattle.replay_turn.proofs.counted.Tie as tie
 
-returns : tie.Need-returns
-unfolding w.counted
-returns c = search tests
-
-returns-2 : tie.Need-returns-2
-unfolding w.counted
-returns-2 c = search tests
-
 pub counted-spec : {M : Type 1} → statement M
-counted-spec = tie.close (tie.spec (λ c. search needs) returns returns-2)
+unfolding w.counted
+counted-spec = tie.close (tie.spec (λ c. search needs) (λ c. search tests) (λ c. search tests))

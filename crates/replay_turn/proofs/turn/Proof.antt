@@ -19,53 +19,117 @@ use Rattle.replay_turn.proofs.turn.Tie as tie
 
 sub-message : tie.Need-sub-message
 unfolding Within
-sub-message c = let a = c .before .before .before .before .before .before .before .before .args in let h = subst (Within (length (a .s .now))) (sym (c .before .before .before .before .decide .ensures) ∙ c .before .before .size .given .1) (within (a .s .now) (a .window)) in omega arith
+sub-message c =
+    let at-size = c .before .before in
+    let at-decide = at-size .before .before in
+    let a = at-decide .before .before .before .before .args in
+    let h = subst (Within (length (a .s .now))) (sym (at-decide .decide .ensures) ∙ at-size .size .given .1)
+    (within (a .s .now) (a .window)) in
+    omega arith
 
 part-message-start : tie.Need-part-message-start
 unfolding Within
-part-message-start c = let a = c .before .before .before .before .before .before .before .before .args in let h = subst (Within (length (a .s .now))) (sym (c .before .before .before .before .decide .ensures) ∙ c .before .before .size .given .1) (within (a .s .now) (a .window)) in omega arith
+part-message-start c =
+    let at-size = c .before .before in
+    let at-decide = at-size .before .before in
+    let a = at-decide .before .before .before .before .args in
+    let h = subst (Within (length (a .s .now))) (sym (at-decide .decide .ensures) ∙ at-size .size .given .1)
+    (within (a .s .now) (a .window)) in
+    omega arith
 
 part-message-end : tie.Need-part-message-end
 unfolding Within
-part-message-end c = let a = c .before .before .before .before .before .before .before .before .args in let h = subst (Within (length (a .s .now))) (sym (c .before .before .before .before .decide .ensures) ∙ c .before .before .size .given .1) (within (a .s .now) (a .window)) in omega arith
+part-message-end c =
+    let at-size = c .before .before in
+    let at-decide = at-size .before .before in
+    let a = at-decide .before .before .before .before .args in
+    let h = subst (Within (length (a .s .now))) (sym (at-decide .decide .ensures) ∙ at-size .size .given .1)
+    (within (a .s .now) (a .window)) in
+    omega arith
 
 sub-frame-line : tie.Need-sub-frame-line
 unfolding Within
-sub-frame-line c = let a = c .before .before .before .before .before .before .before .before .before .before .before .before .before .before .before .args in let h = subst (Within (length (a .s .now))) (sym (c .before .before .before .before .before .before .before .before .before .before .before .decide .ensures) ∙ c .before .before .before .before .before .before .before .before .before .size .given .1) (within (a .s .now) (a .window)) in omega arith
+sub-frame-line c =
+    let at-size = c .before .before .before .before .before .before .before .before .before in
+    let at-decide = at-size .before .before in
+    let a = at-decide .before .before .before .before .args in
+    let h = subst (Within (length (a .s .now))) (sym (at-decide .decide .ensures) ∙ at-size .size .given .1)
+    (within (a .s .now) (a .window)) in
+    omega arith
 
 part-frame-line-start : tie.Need-part-frame-line-start
 unfolding Within
-part-frame-line-start c = let a = c .before .before .before .before .before .before .before .before .before .before .before .before .before .before .before .args in let h = subst (Within (length (a .s .now))) (sym (c .before .before .before .before .before .before .before .before .before .before .before .decide .ensures) ∙ c .before .before .before .before .before .before .before .before .before .size .given .1) (within (a .s .now) (a .window)) in omega arith
+part-frame-line-start c =
+    let at-size = c .before .before .before .before .before .before .before .before .before in
+    let at-decide = at-size .before .before in
+    let a = at-decide .before .before .before .before .args in
+    let h = subst (Within (length (a .s .now))) (sym (at-decide .decide .ensures) ∙ at-size .size .given .1)
+    (within (a .s .now) (a .window)) in
+    omega arith
 
 part-frame-line-end : tie.Need-part-frame-line-end
 unfolding Within
-part-frame-line-end c = let a = c .before .before .before .before .before .before .before .before .before .before .before .before .before .before .before .args in let h = subst (Within (length (a .s .now))) (sym (c .before .before .before .before .before .before .before .before .before .before .before .decide .ensures) ∙ c .before .before .before .before .before .before .before .before .before .size .given .1) (within (a .s .now) (a .window)) in omega arith
+part-frame-line-end c =
+    let at-size = c .before .before .before .before .before .before .before .before .before in
+    let at-decide = at-size .before .before in
+    let a = at-decide .before .before .before .before .args in
+    let h = subst (Within (length (a .s .now))) (sym (at-decide .decide .ensures) ∙ at-size .size .given .1)
+    (within (a .s .now) (a .window)) in
+    omega arith
 
 returns : tie.Need-returns
 unfolding turned byNext Within
-returns c = let a = c .before .before .before .before .before .before .args in let e = sym (c .before .before .decide .ensures) ∙ c .enum-told .given .1 in let no = silent (a .out .now) in rw e (refl, (refl, (refl, (no .0, (no .1 .0, (omega arith, tt))))))
+returns c =
+    let at-decide = c .before .before in
+    let a = at-decide .before .before .before .before .args in
+    let e = sym (at-decide .decide .ensures) ∙ c .enum-told .given .1 in
+    let no = silent (a .out .now) in
+    rw e (refl, (refl, (refl, (no .0, (no .1 .0, (omega arith, tt))))))
 
 returns-2 : tie.Need-returns-2
 unfolding turned byNext handed
 returns-2 c =
-    let a = c .before .before .before .before .before .before .before .before .before .before .before .before .before .before .before .before .before .before .before .before .args in
-    let size = c .before .before .before .before .before .before .before .before .before .before .before .before .before .before .size .given .0 .0 in
-    let e = sym (c .before .before .before .before .before .before .before .before .before .before .before .before .before .before .before .before .decide .ensures) ∙ c .before .before .before .before .before .before .before .before .before .before .before .before .before .before .size .given .1 in
-    let m = c .before .before .before .before .before .before .before .before .before .message in
-    let n = c .before .before .before .before .before .before .counted in
-    let l = c .before .before .before .frame-line .ensures in
+    let at-frame-line = c .before .before .before in
+    let at-counted = at-frame-line .before .before .before in
+    let at-message = at-counted .before .before .before in
+    let at-size = at-message .before .before .before .before .before in
+    let at-decide = at-size .before .before in
+    let a = at-decide .before .before .before .before .args in
+    let size = at-size .size .given .0 .0 in
+    let e = sym (at-decide .decide .ensures) ∙ at-size .size .given .1 in
+    let m = at-message .message in
+    let n = at-counted .counted in
+    let l = at-frame-line .frame-line .ensures in
     let o : Outcome = answered (a .re) (a .s .now) (a .area .now) size in
     let f : ℕ = memberOf (part (a .s .now) 4 size) in
-    let same : frameLine (n .result) f (outcome (m .result) []) ≡ frameLine (counted (a .re .frames)) f o = same-line (n .result) f (m .result) [] (m .last .1 .1 .0) ∙ ap (frameLine (n .result) f) (m .ensures) ∙ ap (λ (k : ℕ). frameLine k f o) (n .ensures) in
-    rw e (λ i. record { session = m .ensures i .session; used = m .ensures i .used; frames = n .ensures i }, (refl, (ap (λ (x : Outcome). x .area) (m .ensures), (l .0 ∙ ap (λ (t : List ℕ). written t (a .out .now)) same, (l .1 .0 ∙ ap (λ (t : List ℕ). lineLength t (a .out .now)) same, (l .1 .1, subst (Within (length (a .s .now))) e (within (a .s .now) (a .window))))))))
+    let same : frameLine (n .result) f (outcome (m .result) []) ≡ frameLine (counted (a .re .frames)) f o = same-line (n .result) f
+    (m .result) [] (m .last .1 .1 .0)
+    ∙ ap (frameLine (n .result) f) (m .ensures)
+    ∙ ap (λ (k : ℕ). frameLine k f o) (n .ensures) in
+    rw e
+    (λ i. record { session = m .ensures i .session; used = m .ensures i .used; frames = n .ensures i }, (refl, (ap (λ (x : Outcome). x .area) (m .ensures), (l .0 ∙ ap (λ (t : List ℕ). written t (a .out .now)) same, (l .1 .0 ∙ ap (λ (t : List ℕ). lineLength t (a .out .now)) same, (l .1 .1, subst (Within (length (a .s .now))) e (within (a .s .now) (a .window))))))))
 
 returns-3 : tie.Need-returns-3
 unfolding turned byNext Within
-returns-3 c = let a = c .before .before .before .before .before .before .before .before .before .before .before .args in let e = sym (c .before .before .before .before .before .before .before .decide .ensures) ∙ c .before .before .before .before .before .size2 .given .1 in let l = c .before .before .end-line .ensures in rw e (refl, (refl, (refl, (l .0, (l .1 .0, (l .1 .1, tt))))))
+returns-3 c =
+    let at-end-line = c .before .before in
+    let at-size2 = at-end-line .before .before .before in
+    let at-decide = at-size2 .before .before in
+    let a = at-decide .before .before .before .before .args in
+    let e = sym (at-decide .decide .ensures) ∙ at-size2 .size2 .given .1 in
+    let l = at-end-line .end-line .ensures in
+    rw e (refl, (refl, (refl, (l .0, (l .1 .0, (l .1 .1, tt))))))
 
 returns-4 : tie.Need-returns-4
 unfolding turned byNext Within
-returns-4 c = let a = c .before .before .before .before .before .before .before .before .before .before .args in let e = sym (c .before .before .before .before .before .before .decide .ensures) ∙ c .before .before .before .before .enum-told2 .given .1 in let l = c .before .before .end-line2 .ensures in rw e (refl, (refl, (refl, (l .0, (l .1 .0, (l .1 .1, tt))))))
+returns-4 c =
+    let at-end-line2 = c .before .before in
+    let at-enum-told2 = at-end-line2 .before .before in
+    let at-decide = at-enum-told2 .before .before in
+    let a = at-decide .before .before .before .before .args in
+    let e = sym (at-decide .decide .ensures) ∙ at-enum-told2 .enum-told2 .given .1 in
+    let l = at-end-line2 .end-line2 .ensures in
+    rw e (refl, (refl, (refl, (l .0, (l .1 .0, (l .1 .1, tt))))))
 
 pub turn-spec : {M : Type 1} → statement M
 turn-spec =

@@ -9,14 +9,26 @@ use Rattle.replay_window.proofs.decide.Statement.{statement}
 use Rattle.replay_window.proofs.decide.Tie as tie
 
 add-size : tie.Need-add-size
-add-size c = let s = c .before .before .before .before .before .args .s .now in let h = subst (Sized (length s)) (sym (c .before .before .before .cut-frame .ensures) ∙ c .before .missing .given .1) (sized s) in omega arith
+add-size c =
+    let at-missing = c .before in
+    let at-cut-frame = at-missing .before .before in
+    let at-start = at-cut-frame .before .before in
+    let s = at-start .args .s .now in
+    let h = subst (Sized (length s)) (sym (at-cut-frame .cut-frame .ensures) ∙ at-missing .missing .given .1) (sized s) in
+    omega arith
 
 returns : tie.Need-returns
 unfolding nextOf byCut
 returns c = rw (sym (c .before .before .before .before .cut-frame .ensures) ∙ c .before .before .missing .given .1, lt-ltb _ _ (c .if1 .taken))
 
 add-t10 : tie.Need-add-t10
-add-t10 c = let s = c .before .before .before .before .before .args .s .now in let h = subst (Sized (length s)) (sym (c .before .before .before .cut-frame .ensures) ∙ c .before .length .given .1) (sized s) in omega arith
+add-t10 c =
+    let at-length = c .before in
+    let at-cut-frame = at-length .before .before in
+    let at-start = at-cut-frame .before .before in
+    let s = at-start .args .s .now in
+    let h = subst (Sized (length s)) (sym (at-cut-frame .cut-frame .ensures) ∙ at-length .length .given .1) (sized s) in
+    omega arith
 
 returns-2 : tie.Need-returns-2
 unfolding nextOf byCut

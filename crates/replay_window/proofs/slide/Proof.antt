@@ -36,10 +36,16 @@ loop-again c =
 
 returns-3 : tie.Need-returns-3 Inv-loop μ-loop
 returns-3 c =
-    let l = c .before .loop in
-    let a = c .before .before .before .before .args in
+    let at-loop = c .before in
+    let at-if2 = at-loop .before in
+    let at-if1 = at-if2 .before in
+    let at-start = at-if1 .before in
+    let l = at-loop .loop in
+    let a = at-start .args in
     let e : l .i ≡ a .held - a .from = omega arith in
-    l .inv .1 ∙ ap (moved (a .window .now) (a .from)) e ∙ all-moved (a .window .now) (a .from) (a .held) (c .before .before .before .if1 .left) (c .before .before .if2 .left)
+    l .inv .1
+    ∙ ap (moved (a .window .now) (a .from)) e
+    ∙ all-moved (a .window .now) (a .from) (a .held) (at-if1 .if1 .left) (at-if2 .if2 .left)
 
 pub slide-spec : {M : Type 1} → statement M
 slide-spec =

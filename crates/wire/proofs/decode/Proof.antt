@@ -6,7 +6,11 @@ use Rattle.wire.proofs.decode.Tie as tie
 
 returns : tie.Need-returns
 unfolding decodeNumber checkNumber
-returns c = rw (sym (c .before .before .before .before .check .ensures) ∙ c .before .before .enum-told .given .1, sym (c .before .no-member .ensures) ∙ c .if1 .taken)
+returns c =
+    let at-no-member = c .before in
+    let at-enum-told = at-no-member .before in
+    let at-check = at-enum-told .before .before in
+    rw (sym (at-check .check .ensures) ∙ at-enum-told .enum-told .given .1, sym (at-no-member .no-member .ensures) ∙ c .if1 .taken)
 
 returns-2 : tie.Need-returns-2
 unfolding decodeNumber checkNumber
@@ -14,7 +18,11 @@ returns-2 c = rw (sym (c .before .before .before .check .ensures) ∙ c .before 
 
 returns-3 : tie.Need-returns-3
 unfolding decodeNumber checkNumber
-returns-3 c = rw (sym (c .before .before .before .before .check .ensures) ∙ c .before .before .enum-told .given .1, sym (c .before .no-member .ensures) ∙ c .if1 .left)
+returns-3 c =
+    let at-no-member = c .before in
+    let at-enum-told = at-no-member .before in
+    let at-check = at-enum-told .before .before in
+    rw (sym (at-check .check .ensures) ∙ at-enum-told .enum-told .given .1, sym (at-no-member .no-member .ensures) ∙ c .if1 .left)
 
 pub decode-spec : {M : Type 1} → statement M
 decode-spec =

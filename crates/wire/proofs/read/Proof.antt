@@ -6,11 +6,22 @@ use Rattle.wire.proofs.read.Tie as tie
 
 returns : tie.Need-returns
 unfolding readNumber checkNumber
-returns c = rw (sym (c .before .before .before .before .check .ensures) ∙ c .before .before .enum-told .given .1, sym (c .before .no-member .ensures) ∙ c .if1 .taken)
+returns c =
+    let at-no-member = c .before in
+    let at-enum-told = at-no-member .before in
+    let at-check = at-enum-told .before .before in
+    rw (sym (at-check .check .ensures) ∙ at-enum-told .enum-told .given .1, sym (at-no-member .no-member .ensures) ∙ c .if1 .taken)
 
 returns-2 : tie.Need-returns-2
 unfolding readNumber checkNumber
-returns-2 c = rw (sym (c .before .before .before .before .before .before .check .ensures) ∙ c .before .before .before .before .enum-told .given .1, sym (c .before .before .before .no-member .ensures) ∙ c .before .before .if1 .left, sym (c .before .in-range .ensures) ∙ c .if2 .taken)
+returns-2 c =
+    let at-in-range = c .before in
+    let at-if1 = at-in-range .before in
+    let at-no-member = at-if1 .before in
+    let at-enum-told = at-no-member .before in
+    let at-check = at-enum-told .before .before in
+    rw
+    (sym (at-check .check .ensures) ∙ at-enum-told .enum-told .given .1, sym (at-no-member .no-member .ensures) ∙ at-if1 .if1 .left, sym (at-in-range .in-range .ensures) ∙ c .if2 .taken)
 
 returns-3 : tie.Need-returns-3
 unfolding readNumber checkNumber
@@ -18,7 +29,14 @@ returns-3 c = rw (sym (c .before .before .before .check .ensures) ∙ c .before 
 
 returns-4 : tie.Need-returns-4
 unfolding readNumber checkNumber
-returns-4 c = rw (sym (c .before .before .before .before .before .before .check .ensures) ∙ c .before .before .before .before .enum-told .given .1, sym (c .before .before .before .no-member .ensures) ∙ c .before .before .if1 .left, sym (c .before .in-range .ensures) ∙ c .if2 .left)
+returns-4 c =
+    let at-in-range = c .before in
+    let at-if1 = at-in-range .before in
+    let at-no-member = at-if1 .before in
+    let at-enum-told = at-no-member .before in
+    let at-check = at-enum-told .before .before in
+    rw
+    (sym (at-check .check .ensures) ∙ at-enum-told .enum-told .given .1, sym (at-no-member .no-member .ensures) ∙ at-if1 .if1 .left, sym (at-in-range .in-range .ensures) ∙ c .if2 .left)
 
 pub read-spec : {M : Type 1} → statement M
 read-spec =

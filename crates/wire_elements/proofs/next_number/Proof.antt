@@ -11,17 +11,25 @@ returns c = at-value _ _ _ _ _ (sym (c .before .before .before .packed-at .ensur
 
 returns-2 : tie.Need-returns-2
 unfolding onVarint
-returns-2 c = let a = c .before .before .before .before .before .before .args in
+returns-2 c =
+    let at-resumed = c .before in
+    let at-enum-told = at-resumed .before in
+    let at-packed-at = at-enum-told .before .before in
+    let a = at-packed-at .before .before .args in
     c .number-from .ensures
-    ∙ ap (λ (i : ℕ). numbersOf (itemsAt (a .s .now) i)) (c .before .resumed .ensures)
-    ∙ at-cursor _ _ _ _ (sym (c .before .before .before .before .packed-at .ensures) ∙ c .before .before .enum-told .given .1)
+    ∙ ap (λ (i : ℕ). numbersOf (itemsAt (a .s .now) i)) (at-resumed .resumed .ensures)
+    ∙ at-cursor _ _ _ _ (sym (at-packed-at .packed-at .ensures) ∙ at-enum-told .enum-told .given .1)
 
 returns-3 : tie.Need-returns-3
 unfolding onVarint
-returns-3 c = let a = c .before .before .before .before .before .before .args in
+returns-3 c =
+    let at-resumed2 = c .before in
+    let at-enum-told2 = at-resumed2 .before in
+    let at-packed-at = at-enum-told2 .before .before in
+    let a = at-packed-at .before .before .args in
     c .number-from2 .ensures
-    ∙ ap (λ (i : ℕ). numbersOf (itemsAt (a .s .now) i)) (c .before .resumed2 .ensures)
-    ∙ at-cursor _ _ _ _ (sym (c .before .before .before .before .packed-at .ensures) ∙ c .before .before .enum-told2 .given .1)
+    ∙ ap (λ (i : ℕ). numbersOf (itemsAt (a .s .now) i)) (at-resumed2 .resumed2 .ensures)
+    ∙ at-cursor _ _ _ _ (sym (at-packed-at .packed-at .ensures) ∙ at-enum-told2 .enum-told2 .given .1)
 
 pub next-number-spec : {M : Type 1} → statement M
 next-number-spec =

@@ -6,7 +6,11 @@ use Rattle.wire_fast_client.proofs.client.Tie as tie
 
 returns : tie.Need-returns
 unfolding ClientSaid
-returns c = subst (ClientSaid (c .before .before .before .before .before .args .s .now)) (c .before .member .given .1) (c .before .before .before .plain-client .ensures)
+returns c =
+    let at-member = c .before in
+    let at-plain-client = at-member .before .before in
+    let at-start = at-plain-client .before .before in
+    subst (ClientSaid (at-start .args .s .now)) (at-member .member .given .1) (at-plain-client .plain-client .ensures)
 
 pub client-spec : {M : Type 1} → statement M
 client-spec =

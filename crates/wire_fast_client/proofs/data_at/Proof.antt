@@ -13,21 +13,18 @@ returns c = c .if1 .taken
 
 returns-2 : tie.Need-returns-2
 unfolding Tailed
-returns-2 c = (tag-there _ _ _ (sym (c .before .before .before .before .before .before .has-tag .ensures) ∙ c .before .before .before .before .before .if2 .taken) (omega arith), found-part _ _ _ (c .before .before .before .before .part-found .ensures) _ _ (c .before .before .start .given .1), c .if3 .taken)
-
-returns-3 : tie.Need-returns-3
-unfolding Tailed
-returns-3 c = tt
-
-returns-4 : tie.Need-returns-4
-unfolding Tailed
-returns-4 c = tt
-
-returns-5 : tie.Need-returns-5
-unfolding Tailed
-returns-5 c = tt
+returns-2 c =
+    let at-start = c .before .before in
+    let at-part-found = at-start .before .before in
+    let at-if2 = at-part-found .before in
+    let at-has-tag = at-if2 .before in (
+      tag-there _ _ _ (sym (at-has-tag .has-tag .ensures) ∙ at-if2 .if2 .taken) (omega arith),
+      found-part _ _ _ (at-part-found .part-found .ensures) _ _ (at-start .start .given .1),
+      c .if3 .taken,
+    )
 
 pub data-at-spec : {M : Type 1} → statement M
+unfolding Tailed
 data-at-spec =
     tie.close
     (tie.spec
@@ -37,7 +34,7 @@ data-at-spec =
     (λ c κs. search needs)
     (λ c. search needs)
     returns-2
-    returns-3
+    (λ c. tt)
     (λ c. search needs)
-    returns-4
-    returns-5)
+    (λ c. tt)
+    (λ c. tt))

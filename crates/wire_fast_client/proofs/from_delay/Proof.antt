@@ -16,7 +16,14 @@ part-plain-time-end : tie.Need-part-plain-time-end
 part-plain-time-end c = let z = delay-lies _ (c .before .pre .0) _ _ (c .before .pre .1) in omega arith
 
 returns : tie.Need-returns
-returns c = subst (IoSaid (c .before .before .before .before .before .before .before .before .args .s .now)) (sym (c .with-data .ensures)) (delay-data _ (c .before .before .before .before .before .before .before .before .pre .0) _ _ (c .before .before .before .before .before .before .before .before .pre .1) _ (c .before .before .before .before .before .plain-time .ensures) _ _ (c .before .before .before .seconds .given .1) _ (c .before .data-at .ensures))
+returns c =
+    let at-data-at = c .before in
+    let at-seconds = at-data-at .before .before in
+    let at-plain-time = at-seconds .before .before in
+    let at-start = at-plain-time .before .before .before in
+    subst (IoSaid (at-start .args .s .now)) (sym (c .with-data .ensures))
+    (delay-data _ (at-start .pre .0) _ _ (at-start .pre .1) _ (at-plain-time .plain-time .ensures) _ _ (at-seconds .seconds .given .1)
+    _ (at-data-at .data-at .ensures))
 
 returns-2 : tie.Need-returns-2
 unfolding IoSaid

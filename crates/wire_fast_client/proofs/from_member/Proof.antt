@@ -12,13 +12,30 @@ part-plain-io-start : tie.Need-part-plain-io-start
 part-plain-io-start c = let z = member-lies _ _ (c .before .pre .0 .0) (c .before .pre .0 .1) _ _ (c .before .pre .1 .0) in omega arith
 
 add-t16 : tie.Need-add-t16
-add-t16 c = let w = member-within _ _ (c .before .before .before .before .before .before .pre .0 .0) (c .before .before .before .before .before .before .pre .0 .1) _ _ (c .before .before .before .before .before .before .pre .1 .0) _ (c .before .before .before .plain-io .ensures) _ _ _ _ (c .before .seconds .given .1) in omega (arith, w .0, c .before .before .before .before .before .before .good .0)
+add-t16 c =
+    let at-seconds = c .before in
+    let at-plain-io = at-seconds .before .before in
+    let at-start = at-plain-io .before .before .before in
+    let w = member-within _ _ (at-start .pre .0 .0) (at-start .pre .0 .1) _ _ (at-start .pre .1 .0) _ (at-plain-io .plain-io .ensures)
+    _ _ _ _ (at-seconds .seconds .given .1) in
+    omega (arith, w .0, at-start .good .0)
 
 add-t17 : tie.Need-add-t17
-add-t17 c = let w = member-within _ _ (c .before .before .before .before .before .before .pre .0 .0) (c .before .before .before .before .before .before .pre .0 .1) _ _ (c .before .before .before .before .before .before .pre .1 .0) _ (c .before .before .before .plain-io .ensures) _ _ _ _ (c .before .seconds .given .1) in omega (arith, w .1, c .before .before .before .before .before .before .good .0)
+add-t17 c =
+    let at-seconds = c .before in
+    let at-plain-io = at-seconds .before .before in
+    let at-start = at-plain-io .before .before .before in
+    let w = member-within _ _ (at-start .pre .0 .0) (at-start .pre .0 .1) _ _ (at-start .pre .1 .0) _ (at-plain-io .plain-io .ensures)
+    _ _ _ _ (at-seconds .seconds .given .1) in
+    omega (arith, w .1, at-start .good .0)
 
 returns : tie.Need-returns
-returns c = member-io _ _ (c .before .before .before .before .before .before .pre .0 .0) (c .before .before .before .before .before .before .pre .0 .1) _ _ (c .before .before .before .before .before .before .pre .1 .0) (c .before .before .before .before .before .before .pre .1 .1) _ (c .before .before .before .plain-io .ensures) _ _ _ _ (c .before .seconds .given .1)
+returns c =
+    let at-seconds = c .before in
+    let at-plain-io = at-seconds .before .before in
+    let at-start = at-plain-io .before .before .before in
+    member-io _ _ (at-start .pre .0 .0) (at-start .pre .0 .1) _ _ (at-start .pre .1 .0) (at-start .pre .1 .1) _
+    (at-plain-io .plain-io .ensures) _ _ _ _ (at-seconds .seconds .given .1)
 
 returns-2 : tie.Need-returns-2
 unfolding ClientSaid

@@ -7,24 +7,28 @@ use Rattle.wire_fast_client.proofs.from_seconds.Statement.{statement}
 use Rattle.wire_fast_client.proofs.from_seconds.Tie as tie
 
 returns : tie.Need-returns
-returns c = only-seconds _ (tag-there _ _ _ (sym (c .before .before .before .before .before .before .has-tag .ensures) ∙ c .before .before .before .before .before .if1 .taken) (omega arith)) _ _ (sym (c .before .before .before .before .varint-at .ensures) ∙ c .before .before .value .given .1) (c .if2 .taken)
+returns c =
+    let at-value = c .before .before in
+    let at-varint-at = at-value .before .before in
+    let at-if1 = at-varint-at .before in
+    let at-has-tag = at-if1 .before in
+    only-seconds _ (tag-there _ _ _ (sym (at-has-tag .has-tag .ensures) ∙ at-if1 .if1 .taken) (omega arith)) _ _
+    (sym (at-varint-at .varint-at .ensures) ∙ at-value .value .given .1) (c .if2 .taken)
 
 returns-2 : tie.Need-returns-2
-returns-2 c = seconds-nanos _ (tag-there _ _ _ (sym (c .before .before .before .before .before .before .before .before .before .before .has-tag .ensures) ∙ c .before .before .before .before .before .before .before .before .before .if1 .taken) (omega arith)) _ _ (sym (c .before .before .before .before .before .before .before .before .varint-at .ensures) ∙ c .before .before .before .before .before .before .value .given .1) _ (c .before .before .before .nanos-at .ensures) _ (c .before .nanos .given .1)
-
-returns-3 : tie.Need-returns-3
-unfolding TimeSaid
-returns-3 c = tt
-
-returns-4 : tie.Need-returns-4
-unfolding TimeSaid
-returns-4 c = tt
-
-returns-5 : tie.Need-returns-5
-unfolding TimeSaid
-returns-5 c = tt
+returns-2 c =
+    let at-nanos = c .before in
+    let at-nanos-at = at-nanos .before .before in
+    let at-value = at-nanos-at .before .before .before in
+    let at-varint-at = at-value .before .before in
+    let at-if1 = at-varint-at .before in
+    let at-has-tag = at-if1 .before in
+    seconds-nanos _ (tag-there _ _ _ (sym (at-has-tag .has-tag .ensures) ∙ at-if1 .if1 .taken) (omega arith)) _ _
+    (sym (at-varint-at .varint-at .ensures) ∙ at-value .value .given .1) _ (at-nanos-at .nanos-at .ensures) _
+    (at-nanos .nanos .given .1)
 
 pub from-seconds-spec : {M : Type 1} → statement M
+unfolding TimeSaid
 from-seconds-spec =
     tie.close
     (tie.spec
@@ -36,10 +40,10 @@ from-seconds-spec =
     (λ c. search needs)
     returns-2
     (λ c. search needs)
-    returns-3
+    (λ c. tt)
     (λ c. search needs)
-    returns-4
+    (λ c. tt)
     (λ c. search needs)
-    returns-5
+    (λ c. tt)
     (λ c κs. search needs)
     (λ c. search needs))

@@ -10,29 +10,27 @@ use Rattle.wire_fast_client.proofs.nanos_at.Statement.{statement}
 use Rattle.wire_fast_client.proofs.nanos_at.Tie as tie
 
 add-varint-at : tie.Need-add-varint-at
-add-varint-at c = let h = (tag-there _ _ _ (sym (c .before .has-tag .ensures) ∙ c .if1 .taken) (omega arith)) .within in omega (arith, h, c .before .before .before .good .0)
+add-varint-at c =
+    let at-has-tag = c .before in
+    let at-start = at-has-tag .before .before in
+    let h = (tag-there _ _ _ (sym (at-has-tag .has-tag .ensures) ∙ c .if1 .taken) (omega arith)) .within in
+    omega (arith, h, at-start .good .0)
 
 returns : tie.Need-returns
 unfolding Ends
-returns c = (tag-there _ _ _ (sym (c .before .before .before .before .before .before .has-tag .ensures) ∙ c .before .before .before .before .before .if1 .taken) (omega arith), sym (c .before .before .before .before .varint-at .ensures) ∙ c .before .before .value .given .1 ∙ ap (λ (n : ℕ). Value (c .before .before .value .given .0 .0) n) (c .if2 .taken))
-
-returns-2 : tie.Need-returns-2
-unfolding Ends
-returns-2 c = tt
-
-returns-3 : tie.Need-returns-3
-unfolding Ends
-returns-3 c = tt
-
-returns-4 : tie.Need-returns-4
-unfolding Ends
-returns-4 c = tt
-
-returns-5 : tie.Need-returns-5
-unfolding Ends
-returns-5 c = tt
+returns c =
+    let at-value = c .before .before in
+    let at-varint-at = at-value .before .before in
+    let at-if1 = at-varint-at .before in
+    let at-has-tag = at-if1 .before in (
+      tag-there _ _ _ (sym (at-has-tag .has-tag .ensures) ∙ at-if1 .if1 .taken) (omega arith),
+      sym (at-varint-at .varint-at .ensures)
+          ∙ at-value .value .given .1
+          ∙ ap (λ (n : ℕ). Value (at-value .value .given .0 .0) n) (c .if2 .taken),
+    )
 
 pub nanos-at-spec : {M : Type 1} → statement M
+unfolding Ends
 nanos-at-spec =
     tie.close
     (tie.spec
@@ -41,9 +39,9 @@ nanos-at-spec =
     (λ c κs. search needs)
     (λ c. search needs)
     returns
-    returns-2
+    (λ c. tt)
     (λ c. search needs)
-    returns-3
+    (λ c. tt)
     (λ c. search needs)
-    returns-4
-    returns-5)
+    (λ c. tt)
+    (λ c. tt))

@@ -10,35 +10,24 @@ use borrow.Author.Needs.{needs}
 use Rattle.wire_fast_client.proofs.plain_client.Statement.{statement}
 use Rattle.wire_fast_client.proofs.plain_client.Tie as tie
 
-returns : tie.Need-returns
-unfolding ClientSaid
-returns c = tt
-
 from-member-requires : tie.Need-from-member-requires
-from-member-requires c κs = let p = c .before .before .before .before in
-    let io = p .before .before in
+from-member-requires c κs =
+    let at-start = c .before .before in
+    let at-part-found = at-start .before .before in
+    let io = at-part-found .before .before in
     let w = io .before in
-    let tag = io-tag _ (sym (io .is-io .ensures) ∙ p .before .if2 .taken) in
-    let i : 0 < length (w .before .before .before .before .args .s .now) = omega (arith, w .before .before .if1 .left) in
-    ((tag, record { within = i; tagged = one-byte _ 0 _ i (sym (w .wide .ensures)) (omega (arith, tag .most)) }), (found-part _ _ _ (p .part-found .ensures) _ _ (c .before .before .start .given .1), c .if3 .taken))
-
-returns-3 : tie.Need-returns-3
-unfolding ClientSaid
-returns-3 c = tt
-
-returns-4 : tie.Need-returns-4
-unfolding ClientSaid
-returns-4 c = tt
-
-returns-5 : tie.Need-returns-5
-unfolding ClientSaid
-returns-5 c = tt
+    let tag = io-tag _ (sym (io .is-io .ensures) ∙ at-part-found .before .if2 .taken) in
+    let i : 0 < length (w .before .before .before .before .args .s .now) = omega (arith, w .before .before .if1 .left) in (
+      (tag, record { within = i; tagged = one-byte _ 0 _ i (sym (w .wide .ensures)) (omega (arith, tag .most)) }),
+      (found-part _ _ _ (at-part-found .part-found .ensures) _ _ (at-start .start .given .1), c .if3 .taken),
+    )
 
 pub plain-client-spec : {M : Type 1} → statement M
+unfolding ClientSaid
 plain-client-spec =
     tie.close
     (tie.spec
-    returns
+    (λ c. tt)
     (λ c. search needs)
     (λ c κs. search needs)
     (λ c κs. search needs)
@@ -46,7 +35,7 @@ plain-client-spec =
     (λ c. search needs)
     from-member-requires
     (λ c. search needs)
-    returns-3
+    (λ c. tt)
     (λ c. search needs)
-    returns-4
-    returns-5)
+    (λ c. tt)
+    (λ c. tt))

@@ -8,17 +8,17 @@ use Rattle.wire_fast_client.proofs.plain_io.Statement.{statement}
 use Rattle.wire_fast_client.proofs.plain_io.Tie as tie
 
 from-delay-requires : tie.Need-from-delay-requires
-from-delay-requires c κs = (tag-there _ _ _ (sym (c .before .before .before .before .before .has-tag .ensures) ∙ c .before .before .before .before .if1 .taken) (omega arith), found-part _ _ _ (c .before .before .before .part-found .ensures) _ _ (c .before .start .given .1))
-
-returns-2 : tie.Need-returns-2
-unfolding IoSaid
-returns-2 c = tt
-
-returns-3 : tie.Need-returns-3
-unfolding IoSaid
-returns-3 c = tt
+from-delay-requires c κs =
+    let at-start = c .before in
+    let at-part-found = at-start .before .before in
+    let at-if1 = at-part-found .before in
+    let at-has-tag = at-if1 .before in (
+      tag-there _ _ _ (sym (at-has-tag .has-tag .ensures) ∙ at-if1 .if1 .taken) (omega arith),
+      found-part _ _ _ (at-part-found .part-found .ensures) _ _ (at-start .start .given .1),
+    )
 
 pub plain-io-spec : {M : Type 1} → statement M
+unfolding IoSaid
 plain-io-spec =
     tie.close
     (tie.spec
@@ -28,5 +28,5 @@ plain-io-spec =
     from-delay-requires
     (λ c. search needs)
     (λ c. search needs)
-    returns-2
-    returns-3)
+    (λ c. tt)
+    (λ c. tt))

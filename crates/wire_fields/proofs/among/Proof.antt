@@ -1,3 +1,4 @@
+-- Both cases are the test of the definition `among`.
 use borrow.Author.Tests.{le-leb, lt-leb}
 use Rattle.wire_fields.specs.Fields.{among}
 use Rattle.wire_fields.proofs.among.Statement.{statement}

@@ -1,3 +1,4 @@
+-- The loop keeps "the last from `at` on, after what is found, is the last of all"; a turn follows its field (Follow), the end is Follow.none.
 use borrow.Author.Needs.{needs}
 use native.Mathlib.Omega.{arith}
 use mathlib.Core.Path.{_≡_, refl, sym, ap, subst, _∙_}
@@ -17,18 +18,22 @@ abbrev μ-loop : tie.MeasureT-loop
 μ-loop s lo hi found₀ at₀ found at = length s - at
 
 -- after a field: how far it reaches, and that the last of what follows it is the answer
-after : (c : tie.After-later Inv-loop μ-loop) → (x : Field) → c .before .field-at .result ≡ x
-    → (FieldRead (c .before .before .before .before .before .args .s .now) (c .before .before .before .loop .at) x)
-    × (lastOf (c .before .before .before .before .before .args .lo) (c .before .before .before .before .before .args .hi) (c .before .before .before .loop .found) (onField (fieldsAt (c .before .before .before .before .before .args .s .now)) x)
-    ≡ lastIn (c .before .before .before .before .before .args .lo) (c .before .before .before .before .before .args .hi) (c .before .before .before .before .before .args .s .now))
-    × (c .later .result ≡ later (c .before .before .before .before .before .args .lo) (c .before .before .before .before .before .args .hi) (c .before .before .before .loop .found) x)
+after : (c : tie.After-later Inv-loop μ-loop) (x : Field) → c .before .field-at .result ≡ x →
+    let at-loop = c .before .before .before in
+    let a = at-loop .before .before .args in
+    let l = at-loop .loop in
+    (FieldRead (a .s .now) (l .at) x)
+    × (lastOf (a .lo) (a .hi) (l .found) (onField (fieldsAt (a .s .now)) x) ≡ lastIn (a .lo) (a .hi) (a .s .now))
+    × (c .later .result ≡ later (a .lo) (a .hi) (l .found) x)
 after c x e =
-    let a = c .before .before .before .before .before .args in
-    let l = c .before .before .before .loop in
+    let at-turn = c .before .before in
+    let at-loop = at-turn .before in
+    let a = at-loop .before .before .args in
+    let l = at-loop .loop in
     let is = sym (c .before .field-at .ensures) ∙ e in (
       subst (FieldRead (a .s .now) (l .at)) is (field-read (a .s .now) (l .at)),
       ap (λ (y : Field). lastOf (a .lo) (a .hi) (l .found) (onField (fieldsAt (a .s .now)) y)) (sym is)
-          ∙ ap (λ (y : List Field). lastOf (a .lo) (a .hi) (l .found) y) (sym (follow (a .s .now) (l .at) (c .before .before .loop-test .taken)))
+          ∙ ap (λ (y : List Field). lastOf (a .lo) (a .hi) (l .found) y) (sym (follow (a .s .now) (l .at) (at-turn .loop-test .taken)))
           ∙ l .inv .1,
       c .later .ensures ∙ ap (λ (y : Field). later (a .lo) (a .hi) (l .found) y) e,
     )

@@ -1,3 +1,4 @@
+-- The loop keeps "the first from `at` on is the first of all"; a turn follows its field (Follow), the end is Follow.none.
 use borrow.Author.Needs.{needs}
 use borrow.Author.Tests.{eq-eqb, ne-eqb}
 use native.Mathlib.Omega.{arith}
@@ -18,13 +19,15 @@ abbrev μ-loop : tie.MeasureT-loop
 μ-loop s from number at₀ at = length s - at
 
 -- at a field: how far it reaches, and that the first of what it leads to is the answer
-after : (c : tie.After-field-at Inv-loop μ-loop) → (x : Field) → c .field-at .result ≡ x
-    → (FieldRead (c .before .before .before .before .args .s .now) (c .before .before .loop .at) x)
-    × (firstOf (c .before .before .before .before .args .number) (onField (fieldsAt (c .before .before .before .before .args .s .now)) x)
-    ≡ firstOf (c .before .before .before .before .args .number) (fieldsAt (c .before .before .before .before .args .s .now) (c .before .before .before .before .args .from)))
+after : (c : tie.After-field-at Inv-loop μ-loop) (x : Field) → c .field-at .result ≡ x →
+    let at-loop = c .before .before in
+    let a = at-loop .before .before .args in
+    (FieldRead (a .s .now) (at-loop .loop .at) x)
+    × (firstOf (a .number) (onField (fieldsAt (a .s .now)) x) ≡ firstOf (a .number) (fieldsAt (a .s .now) (a .from)))
 after c x e =
-    let a = c .before .before .before .before .args in
-    let l = c .before .before .loop in
+    let at-loop = c .before .before in
+    let a = at-loop .before .before .args in
+    let l = at-loop .loop in
     let is = sym (c .field-at .ensures) ∙ e in (
       subst (FieldRead (a .s .now) (l .at)) is (field-read (a .s .now) (l .at)),
       ap (λ (y : Field). firstOf (a .number) (onField (fieldsAt (a .s .now)) y)) (sym is)
@@ -38,16 +41,8 @@ loop-holds c = refl
 loop-less : tie.Need-loop-less Inv-loop μ-loop
 loop-less c = let h = after (c .before .before .before) _ (c .before .next .given .1) .0 in omega arith
 
-loop-again : tie.Need-loop-again Inv-loop μ-loop
-unfolding onField firstOf
-loop-again c = after (c .before .before .before) _ (c .before .next .given .1) .1
-
 loop-less-2 : tie.Need-loop-less-2 Inv-loop μ-loop
 loop-less-2 c = let h = after (c .before .before .before) _ (c .before .next2 .given .1) .0 in omega arith
-
-loop-again-2 : tie.Need-loop-again-2 Inv-loop μ-loop
-unfolding onField firstOf
-loop-again-2 c = after (c .before .before .before) _ (c .before .next2 .given .1) .1
 
 returns : tie.Need-returns Inv-loop μ-loop
 unfolding onField firstOf
@@ -60,15 +55,16 @@ loop-again-3 : tie.Need-loop-again-3 Inv-loop μ-loop
 unfolding onField firstOf
 loop-again-3 c = rw (ne-eqb _ _ (c .if1 .left)) at (after (c .before .before .before .before) _ (c .before .before .found .given .1) .1)
 
-returns-2 : tie.Need-returns-2 Inv-loop μ-loop
-unfolding onField firstOf
-returns-2 c = after (c .before .before) _ (c .enum-told .given .1) .1
-
 returns-3 : tie.Need-returns-3 Inv-loop μ-loop
 unfolding firstOf
-returns-3 c = let a = c .before .before .before .args in ap (λ (y : List Field). firstOf (a .number) y) (sym (none (a .s .now) (c .before .loop .at) (c .loop-test .left))) ∙ c .before .loop .inv
+returns-3 c =
+    let at-loop = c .before in
+    let a = at-loop .before .before .args in
+    ap (λ (y : List Field). firstOf (a .number) y) (sym (none (a .s .now) (at-loop .loop .at) (c .loop-test .left)))
+    ∙ at-loop .loop .inv
 
 pub next-part-spec : {M : Type 1} → statement M
+unfolding onField firstOf
 next-part-spec =
     tie.close
     (tie.spec
@@ -78,14 +74,14 @@ next-part-spec =
     (λ c κs. search needs)
     (λ c. search needs)
     loop-less
-    loop-again
+    (λ c. after (c .before .before .before) _ (c .before .next .given .1) .1)
     (λ c. search needs)
     loop-less-2
-    loop-again-2
+    (λ c. after (c .before .before .before) _ (c .before .next2 .given .1) .1)
     (λ c. search needs)
     returns
     loop-less-3
     loop-again-3
     (λ c. search needs)
-    returns-2
+    (λ c. after (c .before .before) _ (c .enum-told .given .1) .1)
     returns-3)

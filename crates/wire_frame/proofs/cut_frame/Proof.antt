@@ -1,3 +1,4 @@
+-- Each case is a test of `cutOf`, of the length that number_of ensures: the ruleset tests closes it.
 use borrow.Author.Needs.{needs}
 use Rattle.base_laws.proofs.Tests.{tests}
 use Rattle.wire_frame.specs.Frame.{cutOf, lengthOf}
@@ -12,15 +13,8 @@ returns-2 : tie.Need-returns-2
 unfolding cutOf lengthOf
 returns-2 c = rw (← c .before .number-of .ensures) (search tests)
 
-returns-3 : tie.Need-returns-3
-unfolding cutOf lengthOf
-returns-3 c = rw (← c .before .before .number-of .ensures) (search tests)
-
-returns-4 : tie.Need-returns-4
-unfolding cutOf lengthOf
-returns-4 c = rw (← c .before .before .number-of .ensures) (search tests)
-
 pub cut-frame-spec : {M : Type 1} → statement M
+unfolding cutOf lengthOf
 cut-frame-spec =
     tie.close
     (tie.spec
@@ -35,5 +29,5 @@ cut-frame-spec =
     (λ c. search needs)
     (λ c. search needs)
     (λ c. search needs)
-    returns-3
-    returns-4)
+    (λ c. rw (← c .before .before .number-of .ensures) (search tests))
+    (λ c. rw (← c .before .before .number-of .ensures) (search tests)))

@@ -9,10 +9,17 @@ use Rattle.wire_message.proofs.exit_in.Tie as tie
 
 returns : tie.Need-returns
 unfolding exitValue exit
-returns c = let s = c .before .before .before .before .before .before .args .s .now in (
-  rw (c .before .before .before .before .time-in .ensures, time-means 1 s, c .before .before .before .number-in .ensures, number-means s 2, c .before .before .flag-in .ensures, c .before .part-in .ensures, bytes-means s 4, c .part-in2 .ensures, bytes-means s 5),
-  (rw (c .before .part-in .ensures) (span-lies s 4), rw (c .part-in2 .ensures) (span-lies s 5)),
-)
+returns c =
+    let at-part-in = c .before in
+    let at-flag-in = at-part-in .before in
+    let at-number-in = at-flag-in .before in
+    let at-time-in = at-number-in .before in
+    let at-start = at-time-in .before .before in
+    let s = at-start .args .s .now in (
+      rw
+          (at-time-in .time-in .ensures, time-means 1 s, at-number-in .number-in .ensures, number-means s 2, at-flag-in .flag-in .ensures, at-part-in .part-in .ensures, bytes-means s 4, c .part-in2 .ensures, bytes-means s 5),
+      (rw (at-part-in .part-in .ensures) (span-lies s 4), rw (c .part-in2 .ensures) (span-lies s 5)),
+    )
 
 pub exit-in-spec : {M : Type 1} → statement M
 exit-in-spec =

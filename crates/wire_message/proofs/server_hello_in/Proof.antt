@@ -7,7 +7,12 @@ use Rattle.wire_message.proofs.server_hello_in.Tie as tie
 
 returns : tie.Need-returns
 unfolding serverHelloValue serverHello
-returns c = let s = c .before .before .before .before .args .s .now in rw (c .before .before .part-in .ensures, bytes-means s 1, c .before .part-in2 .ensures, bytes-means s 2, c .flag-in .ensures)
+returns c =
+    let at-part-in2 = c .before in
+    let at-part-in = at-part-in2 .before in
+    let at-start = at-part-in .before .before in
+    let s = at-start .args .s .now in
+    rw (at-part-in .part-in .ensures, bytes-means s 1, at-part-in2 .part-in2 .ensures, bytes-means s 2, c .flag-in .ensures)
 
 pub server-hello-in-spec : {M : Type 1} → statement M
 server-hello-in-spec =

@@ -7,7 +7,11 @@ use Rattle.wire_message.proofs.time_spec_in.Tie as tie
 
 returns : tie.Need-returns
 unfolding timeValue timeSpec
-returns c = let s = c .before .before .before .args .s .now in rw (c .before .number-in .ensures, c .number-in2 .ensures, number-means s 1, number-means s 2)
+returns c =
+    let at-number-in = c .before in
+    let at-start = at-number-in .before .before in
+    let s = at-start .args .s .now in
+    rw (at-number-in .number-in .ensures, c .number-in2 .ensures, number-means s 1, number-means s 2)
 
 pub time-spec-in-spec : {M : Type 1} → statement M
 time-spec-in-spec = tie.close (tie.spec (λ c κs. search needs) (λ c κs. search needs) returns)

@@ -9,7 +9,13 @@ use Rattle.wire_message.proofs.timed_in.Tie as tie
 
 returns : tie.Need-returns
 unfolding timedValue timed
-returns c = let s = c .before .before .before .args .s .now in (rw (c .before .time-in .ensures, time-means 1 s, c .part-in .ensures, bytes-means s 2), rw (c .part-in .ensures) (span-lies s 2))
+returns c =
+    let at-time-in = c .before in
+    let at-start = at-time-in .before .before in
+    let s = at-start .args .s .now in (
+      rw (at-time-in .time-in .ensures, time-means 1 s, c .part-in .ensures, bytes-means s 2),
+      rw (c .part-in .ensures) (span-lies s 2),
+    )
 
 pub timed-in-spec : {M : Type 1} → statement M
 timed-in-spec = tie.close (tie.spec (λ c κs. search needs) (λ c κs. search needs) returns)

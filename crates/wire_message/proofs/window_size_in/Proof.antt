@@ -8,7 +8,13 @@ use Rattle.wire_message.proofs.window_size_in.Tie as tie
 
 returns : tie.Need-returns
 unfolding windowValue windowSize
-returns c = let s = c .before .before .before .before .args .s .now in rw (c .before .before .time-in .ensures, time-means 1 s, c .before .number-in .ensures, number-means s 2, c .number-in2 .ensures, number-means s 3)
+returns c =
+    let at-number-in = c .before in
+    let at-time-in = at-number-in .before in
+    let at-start = at-time-in .before .before in
+    let s = at-start .args .s .now in
+    rw
+    (at-time-in .time-in .ensures, time-means 1 s, at-number-in .number-in .ensures, number-means s 2, c .number-in2 .ensures, number-means s 3)
 
 pub window-size-in-spec : {M : Type 1} → statement M
 window-size-in-spec =

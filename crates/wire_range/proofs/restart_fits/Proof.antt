@@ -8,7 +8,11 @@ use Rattle.wire_range.proofs.restart_fits.Tie as tie
 
 returns : tie.Need-returns
 unfolding restartFits restart sized
-returns c = rw (← c .before .before .before .length-in .ensures, le-leb _ _ (c .before .before .if1 .taken), le-leb _ _ (c .before .if2 .taken)) (c .moment-in .ensures)
+returns c =
+    let at-if2 = c .before in
+    let at-if1 = at-if2 .before in
+    let at-length-in = at-if1 .before in
+    rw (← at-length-in .length-in .ensures, le-leb _ _ (at-if1 .if1 .taken), le-leb _ _ (at-if2 .if2 .taken)) (c .moment-in .ensures)
 
 returns-2 : tie.Need-returns-2
 unfolding restartFits restart sized

@@ -9,11 +9,19 @@ use Rattle.wire_range.proofs.suspend_fits.Tie as tie
 
 returns : tie.Need-returns
 unfolding suspendFits timed sized
-returns c = rw (sym (c .before .before .before .moment-in .ensures) ∙ c .before .before .if1 .taken, ← c .before .length-in .ensures, le-leb _ _ (c .if2 .taken))
+returns c =
+    let at-length-in = c .before in
+    let at-if1 = at-length-in .before in
+    let at-moment-in = at-if1 .before in
+    rw (sym (at-moment-in .moment-in .ensures) ∙ at-if1 .if1 .taken, ← at-length-in .length-in .ensures, le-leb _ _ (c .if2 .taken))
 
 returns-2 : tie.Need-returns-2
 unfolding suspendFits timed sized
-returns-2 c = rw (sym (c .before .before .before .moment-in .ensures) ∙ c .before .before .if1 .taken, ← c .before .length-in .ensures, lt-leb _ _ (c .if2 .left))
+returns-2 c =
+    let at-length-in = c .before in
+    let at-if1 = at-length-in .before in
+    let at-moment-in = at-if1 .before in
+    rw (sym (at-moment-in .moment-in .ensures) ∙ at-if1 .if1 .taken, ← at-length-in .length-in .ensures, lt-leb _ _ (c .if2 .left))
 
 returns-3 : tie.Need-returns-3
 unfolding suspendFits timed

@@ -1,3 +1,4 @@
+-- Both cases are the test of the definition `highOf`.
 use borrow.Author.Tests.{ne-eqb, eq-eqb}
 use Rattle.wire_schema.specs.Rows.{highOf}
 use Rattle.wire_schema.proofs.high_of.Statement.{statement}

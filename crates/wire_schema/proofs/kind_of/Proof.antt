@@ -1,3 +1,4 @@
+-- A kind read from the two halves of its row is the schema's: Rows.kind-in.
 use mathlib.Core.Path.{_∙_}
 use Rattle.wire_schema.proofs.Rows.{kind-in}
 use borrow.Author.Needs.{needs}

@@ -1,3 +1,4 @@
+-- Each case is a test of `fixedAt`: too short from the start, room, or no room.
 use lib.ListN.{length}
 use Prim.Native.Nat.{_-_}
 use borrow.Author.Tests.{le-leb, lt-leb}

@@ -1,3 +1,4 @@
+-- A length of one byte that fits is Varints.one-byte's; any other is part_slow's contract.
 use mathlib.Core.Path.{sym}
 use borrow.Author.Tests.{le-leb}
 use Rattle.wire_value.specs.Field.{partOf}
@@ -8,9 +9,13 @@ use Rattle.wire_value.proofs.part_at.Tie as tie
 
 returns : tie.Need-returns
 unfolding partOf
-returns c = let w = c .before .before in
-    let a = w .before .before .before .before .args in
-    rw (one-byte (a .s .now) (a .at) (w .wide .result) (w .before .before .if1 .taken) (sym (w .wide .ensures)) (c .before .if2 .taken), le-leb _ _ (c .if3 .taken))
+returns c =
+    let at-if2 = c .before in
+    let at-wide = at-if2 .before in
+    let at-if1 = at-wide .before .before in
+    let a = at-if1 .before .before .args in
+    let one = one-byte (a .s .now) (a .at) (at-wide .wide .result) (at-if1 .if1 .taken) (sym (at-wide .wide .ensures)) (at-if2 .if2 .taken) in
+    rw (one, le-leb _ _ (c .if3 .taken))
 
 pub part-at-spec : {M : Type 1} → statement M
 part-at-spec =

@@ -1,3 +1,4 @@
+-- Varints.within puts the place after the length within the message; each case of what varint_at answers is one of `partOf`.
 use mathlib.Core.Path.{sym, subst, _∙_}
 use borrow.Author.Tests.{le-leb, lt-leb}
 use Rattle.wire_value.specs.Field.{partOf}
@@ -7,12 +8,12 @@ use Rattle.wire_value.proofs.part_slow.Statement.{statement}
 use Rattle.wire_value.proofs.part_slow.Tie as tie
 
 sub-left : tie.Need-sub-left
-sub-left c = let v = c .before in
-    let k = v .before .before .before in
-    let a = k .before .args in
-    let h = subst (Within (a .s .now) (a .at) 9) (sym (v .before .before .varint-at .ensures) ∙ v .value .given .1)
-    (within (a .s .now) (λ i. k .shared-slice-known .given i .fits) 9 (a .at)) in
-    h .1
+sub-left c =
+    let at-varint = c .before .before .before in
+    let at-start = at-varint .before in
+    let a = at-start .before .args in
+    let is = sym (at-varint .varint-at .ensures) ∙ c .before .value .given .1 in
+    subst (Within (a .s .now) (a .at) 9) is (within (a .s .now) (λ i. at-start .shared-slice-known .given i .fits) 9 (a .at)) .1
 
 returns : tie.Need-returns
 unfolding partOf

@@ -1,3 +1,4 @@
+-- The loop keeps "what is read so far, under the rest scaled, is the varint", and a scale with room (Slow); each byte is one case of Varints.
 use Prim.Native.Nat.{_+_, _-_, _*_, _^_, _≤_, _<_}
 use borrow.Author.Needs.{needs}
 use native.Mathlib.Omega.{arith}
@@ -5,7 +6,7 @@ use mathlib.Core.Path.{_≡_, refl, sym, ap, _∙_}
 use lib.ListN.{length}
 use Rattle.wire_varint.specs.Varint.{varintFrom, varintAt}
 use Rattle.wire_varint.proofs.Varints.{past, last-fits, last-long, ends, goes-on, lim}
-use Rattle.wire_varint.proofs.Slow.{under, under-start, under-above, room, room-last, room-next, share}
+use Rattle.wire_varint.proofs.Slow.{under, under-start, under-above, room-next, last-sum, next-sum}
 use Rattle.wire_varint.proofs.varint_at.Statement.{statement}
 use Rattle.wire_varint.proofs.varint_at.Tie as tie
 
@@ -20,119 +21,89 @@ loop-holds : tie.Need-loop-holds Inv-loop μ-loop
 unfolding lim
 loop-holds c = (omega arith, refl, under-start _)
 
-mul-t13 : tie.Need-mul-t13 Inv-loop μ-loop
-mul-t13 c =
-    let w = c .before .before in
-    let l = w .before .before .before .loop in
-    let a = w .before .before .before .before .before .args in
-    let b : w .wide .result ≤ 1 = c .if2 .taken in
-    let z : l .more ≡ 0 = c .before .if1 .taken in
-    omega (arith, share (w .wide .result) (l .scale) 1 b, room-last (l .scale) (l .more) (l .inv .1) z)
+-- ---- the tenth byte
 
-add-t14 : tie.Need-add-t14 Inv-loop μ-loop
-add-t14 c =
-    let w = c .before .before in
-    let l = w .before .before .before .loop in
-    let a = w .before .before .before .before .before .args in
-    let b : w .wide .result ≤ 1 = c .if2 .taken in
-    let z : l .more ≡ 0 = c .before .if1 .taken in
-    omega (arith, share (w .wide .result) (l .scale) 1 b, room-last (l .scale) (l .more) (l .inv .1) z)
-
-add-t15 : tie.Need-add-t15 Inv-loop μ-loop
-add-t15 c = omega arith
+last : (c : tie.Then2 Inv-loop μ-loop) →
+    let at-wide = c .before .before in
+    let l = at-wide .before .before .before .loop in
+    l .value + at-wide .wide .result * l .scale < 2 ^ 64
+last c =
+    let at-wide = c .before .before in
+    let l = at-wide .before .before .before .loop in
+    last-sum (at-wide .wide .result) (l .scale) (l .more) (l .value) (l .inv .1) (l .inv .0) (c .before .if1 .taken) (c .if2 .taken)
 
 returns : tie.Need-returns Inv-loop μ-loop
 returns c =
-    let w = c .before .before in
-    let l = w .before .before .before .loop in
-    let a = w .before .before .before .before .before .args in
-    let b : w .wide .result ≤ 1 = c .if2 .taken in
-    let z : l .more ≡ 0 = c .before .if1 .taken in
-    rw (w .wide .ensures) (ap (under (l .value) (l .scale)) (last-fits (a .s .now) (l .at) (l .more) z (w .before .before .loop-test .taken) (omega (arith, w .wide .ensures))) ∙ l .inv .2)
+    let at-wide = c .before .before in
+    let at-turn = at-wide .before .before in
+    let l = at-turn .before .loop in
+    let s = at-turn .before .before .before .args .s .now in
+    let few = c .if2 .taken in
+    let fits = last-fits s (l .at) (l .more) (c .before .if1 .taken) (at-turn .loop-test .taken) (omega (arith, few, at-wide .wide .ensures)) in
+    rw (at-wide .wide .ensures) (ap (under (l .value) (l .scale)) fits ∙ l .inv .2)
 
 returns-2 : tie.Need-returns-2 Inv-loop μ-loop
 returns-2 c =
-    let w = c .before .before in
-    let l = w .before .before .before .loop in
-    let a = w .before .before .before .before .before .args in
-    ap (under (l .value) (l .scale)) (last-long (a .s .now) (l .at) (l .more) (c .before .if1 .taken) (w .before .before .loop-test .taken) (omega (arith, w .wide .ensures))) ∙ l .inv .2
+    let at-wide = c .before .before in
+    let at-turn = at-wide .before .before in
+    let l = at-turn .before .loop in
+    let s = at-turn .before .before .before .args .s .now in
+    let long = last-long s (l .at) (l .more) (c .before .if1 .taken) (at-turn .loop-test .taken) (omega (arith, at-wide .wide .ensures)) in
+    ap (under (l .value) (l .scale)) long ∙ l .inv .2
 
-mul-t16 : tie.Need-mul-t16 Inv-loop μ-loop
-mul-t16 c =
-    let w = c .before .before in
-    let l = w .before .before .before .loop in
-    let a = w .before .before .before .before .before .args in
-    let b : w .wide .result ≤ 127 = omega arith in
-    omega (arith, share (w .wide .result) (l .scale) 127 b, room (l .scale) (l .more) (l .inv .1) (c .before .if1 .left))
+-- ---- a byte that ends the varint
 
-add-t17 : tie.Need-add-t17 Inv-loop μ-loop
-add-t17 c =
-    let w = c .before .before in
-    let l = w .before .before .before .loop in
-    let a = w .before .before .before .before .before .args in
-    let b : w .wide .result ≤ 127 = omega arith in
-    omega (arith, share (w .wide .result) (l .scale) 127 b, room (l .scale) (l .more) (l .inv .1) (c .before .if1 .left))
-
-add-t18 : tie.Need-add-t18 Inv-loop μ-loop
-add-t18 c = omega arith
+ended : (c : tie.Then3 Inv-loop μ-loop) →
+    let at-wide = c .before .before in
+    let l = at-wide .before .before .before .loop in
+    (l .value + at-wide .wide .result * l .scale < l .scale * 128) × (l .scale * 256 ≤ 2 ^ 64)
+ended c =
+    let at-wide = c .before .before in
+    let l = at-wide .before .before .before .loop in
+    next-sum (at-wide .wide .result) (l .scale) (l .more) (l .value) (l .inv .1) (l .inv .0) (c .before .if1 .left) (omega arith)
 
 returns-3 : tie.Need-returns-3 Inv-loop μ-loop
 returns-3 c =
-    let w = c .before .before in
-    let l = w .before .before .before .loop in
-    let a = w .before .before .before .before .before .args in
-    rw (w .wide .ensures) (ap (under (l .value) (l .scale)) (ends (a .s .now) (l .at) (l .more) (c .before .if1 .left) (w .before .before .loop-test .taken) (omega (arith, w .wide .ensures))) ∙ l .inv .2)
+    let at-wide = c .before .before in
+    let at-turn = at-wide .before .before in
+    let l = at-turn .before .loop in
+    let s = at-turn .before .before .before .args .s .now in
+    let end = ends s (l .at) (l .more) (c .before .if1 .left) (at-turn .loop-test .taken) (omega (arith, at-wide .wide .ensures)) in
+    rw (at-wide .wide .ensures) (ap (under (l .value) (l .scale)) end ∙ l .inv .2)
 
-mul-value : tie.Need-mul-value Inv-loop μ-loop
-mul-value c =
-    let w = c .before .before in
-    let l = w .before .before .before .loop in
-    let a = w .before .before .before .before .before .args in
-    let b : w .wide .result - 128 ≤ 127 = omega (arith, w .wide .ensures, w .before .shared-slice-known2 .given (l .at)) in
-    omega (arith, share (w .wide .result - 128) (l .scale) 127 b, room (l .scale) (l .more) (l .inv .1) (c .before .if1 .left))
+-- ---- a byte that leads on
 
-add-value : tie.Need-add-value Inv-loop μ-loop
-add-value c =
-    let w = c .before .before in
-    let l = w .before .before .before .loop in
-    let a = w .before .before .before .before .before .args in
-    let b : w .wide .result - 128 ≤ 127 = omega (arith, w .wide .ensures, w .before .shared-slice-known2 .given (l .at)) in
-    omega (arith, share (w .wide .result - 128) (l .scale) 127 b, room (l .scale) (l .more) (l .inv .1) (c .before .if1 .left))
-
-mul-scale : tie.Need-mul-scale Inv-loop μ-loop
-mul-scale c =
-    let w = c .before .before in
-    let l = w .before .before .before .loop in
-    let a = w .before .before .before .before .before .args in
-    omega (arith, room (l .scale) (l .more) (l .inv .1) (c .before .if1 .left))
-
-sub-more : tie.Need-sub-more Inv-loop μ-loop
-sub-more c = omega arith
-
-add-at : tie.Need-add-at Inv-loop μ-loop
-add-at c = omega arith
-
-loop-less : tie.Need-loop-less Inv-loop μ-loop
-loop-less c = omega arith
+more : (c : tie.Else3 Inv-loop μ-loop) →
+    let at-wide = c .before .before in
+    let l = at-wide .before .before .before .loop in
+    (l .value + (at-wide .wide .result - 128) * l .scale < l .scale * 128) × (l .scale * 256 ≤ 2 ^ 64)
+more c =
+    let at-wide = c .before .before in
+    let l = at-wide .before .before .before .loop in
+    let byte = at-wide .before .shared-slice-known2 .given (l .at) in
+    next-sum (at-wide .wide .result - 128) (l .scale) (l .more) (l .value) (l .inv .1) (l .inv .0) (c .before .if1 .left)
+    (omega (arith, at-wide .wide .ensures, byte))
 
 loop-again : tie.Need-loop-again Inv-loop μ-loop
 loop-again c =
-    let w = c .before .before in
-    let l = w .before .before .before .loop in
-    let a = w .before .before .before .before .before .args in
-    let b : w .wide .result - 128 ≤ 127 = omega (arith, w .wide .ensures, w .before .shared-slice-known2 .given (l .at)) in
-    let g = goes-on (a .s .now) (l .at) (l .more) (l .more - 1) (omega arith) (w .before .before .loop-test .taken) (omega (arith, w .wide .ensures)) in (
-      omega (arith, share (w .wide .result - 128) (l .scale) 127 b, room (l .scale) (l .more) (l .inv .1) (c .before .if1 .left)),
+    let at-wide = c .before .before in
+    let at-turn = at-wide .before .before in
+    let l = at-turn .before .loop in
+    let s = at-turn .before .before .before .args .s .now in
+    let b = at-wide .wide .result in
+    let on = goes-on s (l .at) (l .more) (l .more - 1) (omega arith) (at-turn .loop-test .taken) (omega (arith, at-wide .wide .ensures)) in (
+      more c .0,
       room-next (l .scale) (l .more) (l .inv .1) (c .before .if1 .left),
-      sym (under-above (l .value) (l .scale) (w .wide .result - 128) (varintFrom (l .more - 1) (a .s .now) (l .at + 1)))
-          ∙ rw (w .wide .ensures) (ap (under (l .value) (l .scale)) g ∙ l .inv .2),
+      sym (under-above (l .value) (l .scale) (b - 128) (varintFrom (l .more - 1) s (l .at + 1)))
+          ∙ rw (at-wide .wide .ensures) (ap (under (l .value) (l .scale)) on ∙ l .inv .2),
     )
+
+-- ---- no byte is left
 
 returns-4 : tie.Need-returns-4 Inv-loop μ-loop
 returns-4 c =
     let l = c .before .loop in
-    let a = c .before .before .before .args in
-    ap (under (l .value) (l .scale)) (past (a .s .now) (l .at) (l .more) (c .loop-test .left)) ∙ l .inv .2
+    ap (under (l .value) (l .scale)) (past _ (l .at) (l .more) (c .loop-test .left)) ∙ l .inv .2
 
 pub varint-at-spec : {M : Type 1} → statement M
 varint-at-spec =
@@ -143,20 +114,20 @@ varint-at-spec =
     loop-holds
     (λ c. search needs)
     (λ c κs. search needs)
-    mul-t13
-    add-t14
-    add-t15
+    (λ c. omega (arith, last c))
+    (λ c. omega (arith, last c))
+    (λ c. omega arith)
     returns
     returns-2
-    mul-t16
-    add-t17
-    add-t18
+    (λ c. omega (arith, ended c))
+    (λ c. omega (arith, ended c))
+    (λ c. omega arith)
     returns-3
-    mul-value
-    add-value
-    mul-scale
-    sub-more
-    add-at
-    loop-less
+    (λ c. omega (arith, more c))
+    (λ c. omega (arith, more c))
+    (λ c. omega (arith, more c))
+    (λ c. omega arith)
+    (λ c. omega arith)
+    (λ c. omega arith)
     loop-again
     returns-4)

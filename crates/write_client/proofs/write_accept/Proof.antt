@@ -10,11 +10,26 @@ use Rattle.write_client.proofs.write_accept.Statement.{statement}
 use Rattle.write_client.proofs.write_accept.Tie as tie
 
 write-plain-requires : tie.Need-write-plain-requires
-write-plain-requires c κs = λ h. member-small 1 1 _ (omega arith) (c .before .before .before .before .before .before .before .before .before .member-in .ensures) (both-true _ (c .before .before .before .before .before .before .before .before .date-fits .result) (sym (c .before .before .before .before .before .before .before .both .ensures) ∙ h) .0)
+write-plain-requires c κs =
+    let at-both = c .before .before .before .before .before .before .before in
+    let at-date-fits = at-both .before in
+    let at-member-in = at-date-fits .before in
+    λ h. member-small 1 1 _ (omega arith) (at-member-in .member-in .ensures)
+    (both-true _ (at-date-fits .date-fits .result) (sym (at-both .both .ensures) ∙ h) .0)
 
 returns : tie.Need-returns
 unfolding encode around cover
-returns c = same-outcome (c .before .before .write-plain .ensures) _ _ _ (c .before .before .before .before .before .before .before .before .before .before .before .before .before .run-refusal .ensures) (both-same (c .before .before .before .before .before .before .before .before .before .before .both .ensures) (c .before .before .before .before .before .before .before .before .before .before .before .before .member-in .ensures) (c .before .before .before .before .before .before .before .before .before .before .before .date-fits .ensures)) (λ h. rw (c .before .before .before .before .before .before .before .before .timed .ensures, c .before .before .before .before .before .before .before .before .before .flag .ensures) (same-wrapped _ _ _ refl))
+returns c =
+    let at-write-plain = c .before .before in
+    let at-timed = at-write-plain .before .before .before .before .before .before in
+    let at-flag = at-timed .before in
+    let at-both = at-flag .before in
+    let at-date-fits = at-both .before in
+    let at-member-in = at-date-fits .before in
+    let at-run-refusal = at-member-in .before in
+    same-outcome (at-write-plain .write-plain .ensures) _ _ _ (at-run-refusal .run-refusal .ensures)
+    (both-same (at-both .both .ensures) (at-member-in .member-in .ensures) (at-date-fits .date-fits .ensures))
+    (λ h. rw (at-timed .timed .ensures, at-flag .flag .ensures) (same-wrapped _ _ _ refl))
 
 pub write-accept-spec : {M : Type 1} → statement M
 write-accept-spec =

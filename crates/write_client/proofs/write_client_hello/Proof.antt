@@ -13,7 +13,12 @@ write-plain-requires c κs = λ h. member-small 13 13 _ (omega arith) (c .before
 
 returns : tie.Need-returns
 unfolding encode around cover
-returns c = same-outcome (c .before .before .write-plain .ensures) _ _ _ refl (c .before .before .before .before .before .before .before .before .before .member-in .ensures) (λ h. rw (c .before .before .before .before .before .before .before .before .listed .ensures) (same-wrapped _ _ _ refl))
+returns c =
+    let at-write-plain = c .before .before in
+    let at-listed = at-write-plain .before .before .before .before .before .before in
+    let at-member-in = at-listed .before in
+    same-outcome (at-write-plain .write-plain .ensures) _ _ _ refl (at-member-in .member-in .ensures)
+    (λ h. rw (at-listed .listed .ensures) (same-wrapped _ _ _ refl))
 
 pub write-client-hello-spec : {M : Type 1} → statement M
 write-client-hello-spec =

@@ -9,11 +9,25 @@ use Rattle.write_client.proofs.write_report.Statement.{statement}
 use Rattle.write_client.proofs.write_report.Tie as tie
 
 write-plain-requires : tie.Need-write-plain-requires
-write-plain-requires c κs = λ h. report-small _ (c .before .before .before .before .before .before .before .report-member .ensures) (both-true _ (c .before .before .before .before .before .before .date-fits .result) (sym (c .before .before .before .before .before .both .ensures) ∙ h) .0)
+write-plain-requires c κs =
+    let at-both = c .before .before .before .before .before in
+    let at-date-fits = at-both .before in
+    let at-report-member = at-date-fits .before in
+    λ h. report-small _ (at-report-member .report-member .ensures)
+    (both-true _ (at-date-fits .date-fits .result) (sym (at-both .both .ensures) ∙ h) .0)
 
 returns : tie.Need-returns
 unfolding encode around cover
-returns c = same-outcome (c .before .before .write-plain .ensures) _ _ _ (c .before .before .before .before .before .before .before .before .before .before .before .run-refusal .ensures) (both-same (c .before .before .before .before .before .before .before .before .both .ensures) (c .before .before .before .before .before .before .before .before .before .before .report-member .ensures) (c .before .before .before .before .before .before .before .before .before .date-fits .ensures)) (λ h. rw (c .before .before .before .before .before .before .before .timed .ensures) (same-wrapped _ _ _ refl))
+returns c =
+    let at-write-plain = c .before .before in
+    let at-timed = at-write-plain .before .before .before .before .before in
+    let at-both = at-timed .before in
+    let at-date-fits = at-both .before in
+    let at-report-member = at-date-fits .before in
+    let at-run-refusal = at-report-member .before in
+    same-outcome (at-write-plain .write-plain .ensures) _ _ _ (at-run-refusal .run-refusal .ensures)
+    (both-same (at-both .both .ensures) (at-report-member .report-member .ensures) (at-date-fits .date-fits .ensures))
+    (λ h. rw (at-timed .timed .ensures) (same-wrapped _ _ _ refl))
 
 pub write-report-spec : {M : Type 1} → statement M
 write-report-spec =

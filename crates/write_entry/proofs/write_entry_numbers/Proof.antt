@@ -10,11 +10,19 @@ use Rattle.write_entry.proofs.write_entry_numbers.Tie as tie
 
 write-message-requires : tie.Need-write-message-requires
 unfolding badEnds
-write-message-requires c κs = (λ h. entry-small _ (c .before .before .before .before .before .before .before .before .before .before .before .before .args .key .now) (c .before .before .before .before .before .before .before .before .entry-fits .ensures) h, λ h. refl)
+write-message-requires c κs =
+    let at-entry-fits = c .before .before .before .before .before .before .before .before in
+    let at-start = at-entry-fits .before .before .before .before in
+    (λ h. entry-small _ (at-start .args .key .now) (at-entry-fits .entry-fits .ensures) h, λ h. refl)
 
 returns : tie.Need-returns
 unfolding encode around cover elements cutAt valuePiece
-returns c = same-outcome (c .before .before .write-message .ensures) _ _ _ refl (c .before .before .before .before .before .before .before .before .before .before .before .entry-fits .ensures) (λ h. rw (c .before .before .before .before .before .before .before .before .before .before .listed .ensures) (same-wrapped _ _ _ refl))
+returns c =
+    let at-write-message = c .before .before in
+    let at-listed = at-write-message .before .before .before .before .before .before .before .before in
+    let at-entry-fits = at-listed .before in
+    same-outcome (at-write-message .write-message .ensures) _ _ _ refl (at-entry-fits .entry-fits .ensures)
+    (λ h. rw (at-listed .listed .ensures) (same-wrapped _ _ _ refl))
 
 pub write-entry-numbers-spec : {M : Type 1} → statement M
 write-entry-numbers-spec =

@@ -12,11 +12,28 @@ use Rattle.write_entry.proofs.write_entry_strings.Statement.{statement}
 use Rattle.write_entry.proofs.write_entry_strings.Tie as tie
 
 write-message-requires : tie.Need-write-message-requires
-write-message-requires c κs = (λ h. entry-small _ (c .before .before .before .before .before .before .before .before .before .before .before .before .before .before .args .key .now) (c .before .before .before .before .before .before .before .before .before .entry-fits .ensures) (both-true _ (c .before .before .before .before .before .before .before .before .ends-fit .result) (sym (c .before .before .before .before .before .before .before .both .ensures) ∙ h) .0), λ h. not-true _ (sym (c .before .before .before .before .before .before .before .before .ends-fit .ensures) ∙ both-true (c .before .before .before .before .before .before .before .before .before .entry-fits .result) _ (sym (c .before .before .before .before .before .before .before .both .ensures) ∙ h) .1))
+write-message-requires c κs =
+    let at-both = c .before .before .before .before .before .before .before in
+    let at-ends-fit = at-both .before in
+    let at-entry-fits = at-ends-fit .before in
+    let at-start = at-entry-fits .before .before .before .before .before in (
+      λ h. entry-small _ (at-start .args .key .now) (at-entry-fits .entry-fits .ensures)
+          (both-true _ (at-ends-fit .ends-fit .result) (sym (at-both .both .ensures) ∙ h) .0),
+      λ h. not-true _
+          (sym (at-ends-fit .ends-fit .ensures) ∙ both-true (at-entry-fits .entry-fits .result) _ (sym (at-both .both .ensures) ∙ h) .1),
+    )
 
 returns : tie.Need-returns
 unfolding encode around cover packed endsFit valuePiece
-returns c = same-outcome (c .before .before .write-message .ensures) _ _ _ refl (both-same (c .before .before .before .before .before .before .before .before .before .before .both .ensures) (c .before .before .before .before .before .before .before .before .before .before .before .before .entry-fits .ensures) (c .before .before .before .before .before .before .before .before .before .before .before .ends-fit .ensures)) (λ h. rw (c .before .before .before .before .before .before .before .before .before .listed .ensures) (same-wrapped _ _ _ refl))
+returns c =
+    let at-write-message = c .before .before in
+    let at-listed = at-write-message .before .before .before .before .before .before .before in
+    let at-both = at-listed .before in
+    let at-ends-fit = at-both .before in
+    let at-entry-fits = at-ends-fit .before in
+    same-outcome (at-write-message .write-message .ensures) _ _ _ refl
+    (both-same (at-both .both .ensures) (at-entry-fits .entry-fits .ensures) (at-ends-fit .ends-fit .ensures))
+    (λ h. rw (at-listed .listed .ensures) (same-wrapped _ _ _ refl))
 
 pub write-entry-strings-spec : {M : Type 1} → statement M
 write-entry-strings-spec =

@@ -12,11 +12,29 @@ use Rattle.write_io.proofs.write_exit.Statement.{statement}
 use Rattle.write_io.proofs.write_exit.Tie as tie
 
 write-plain-requires : tie.Need-write-plain-requires
-write-plain-requires c κs = λ h. member-small 3 3 _ (omega arith) (c .before .before .before .before .before .before .before .before .before .member-in .ensures) (both-true _ _ (sym (c .before .before .before .before .before .before .both3 .ensures) ∙ h) .0)
+write-plain-requires c κs =
+    let at-both3 = c .before .before .before .before .before .before in
+    let at-member-in = at-both3 .before .before .before in
+    λ h. member-small 3 3 _ (omega arith) (at-member-in .member-in .ensures) (both-true _ _ (sym (at-both3 .both3 .ensures) ∙ h) .0)
 
 returns : tie.Need-returns
 unfolding encode around cover
-returns c = same-outcome (c .before .before .write-plain .ensures) _ _ _ refl (both-same (c .before .before .before .before .before .before .before .before .before .both3 .ensures) (c .before .before .before .before .before .before .before .before .before .before .before .before .member-in .ensures) (both-same (c .before .before .before .before .before .before .before .before .before .before .both2 .ensures) (c .before .before .before .before .before .before .before .before .before .before .before .moment-fits .ensures) (both-same {a = leb (c .before .before .before .before .before .before .before .before .before .before .before .before .before .before .before .before .before .before .args .exit-value) 255} (c .before .before .before .before .before .before .before .before .before .before .before .before .before .both .ensures) refl (c .before .before .before .before .before .before .before .before .before .before .before .before .before .before .sized .ensures)))) (λ h. rw (c .before .before .before .before .before .before .before .timed .ensures, c .before .before .before .before .before .before .before .before .flag .ensures) (same-wrapped _ _ _ refl))
+returns c =
+    let at-write-plain = c .before .before in
+    let at-timed = at-write-plain .before .before .before .before .before in
+    let at-flag = at-timed .before in
+    let at-both3 = at-flag .before in
+    let at-both2 = at-both3 .before in
+    let at-moment-fits = at-both2 .before in
+    let at-member-in = at-moment-fits .before in
+    let at-both = at-member-in .before in
+    let at-sized = at-both .before in
+    let at-start = at-sized .before .before .before .before in
+    same-outcome (at-write-plain .write-plain .ensures) _ _ _ refl
+    (both-same (at-both3 .both3 .ensures) (at-member-in .member-in .ensures)
+    (both-same (at-both2 .both2 .ensures) (at-moment-fits .moment-fits .ensures)
+    (both-same {a = leb (at-start .args .exit-value) 255} (at-both .both .ensures) refl (at-sized .sized .ensures))))
+    (λ h. rw (at-timed .timed .ensures, at-flag .flag .ensures) (same-wrapped _ _ _ refl))
 
 pub write-exit-spec : {M : Type 1} → statement M
 write-exit-spec =

@@ -15,7 +15,11 @@ write-message-requires c κs = (λ h. omega arith, λ h. refl)
 
 returns : tie.Need-returns
 unfolding encode around cover elements cutAt
-returns c = same-outcome (c .before .before .write-message .ensures) _ _ _ refl refl (λ h. rw (c .before .before .before .before .before .before .before .before .before .before .before .listed .ensures) (same-wrapped _ _ _ (append-nil _)))
+returns c =
+    let at-write-message = c .before .before in
+    let at-listed = at-write-message .before .before .before .before .before .before .before .before .before in
+    same-outcome (at-write-message .write-message .ensures) _ _ _ refl refl
+    (λ h. rw (at-listed .listed .ensures) (same-wrapped _ _ _ (append-nil _)))
 
 pub write-number-list-spec : {M : Type 1} → statement M
 write-number-list-spec =

@@ -11,11 +11,18 @@ use Rattle.write_list.proofs.write_string_list.Statement.{statement}
 use Rattle.write_list.proofs.write_string_list.Tie as tie
 
 write-message-requires : tie.Need-write-message-requires
-write-message-requires c κs = (λ h. omega arith, λ h. not-true _ (sym (c .before .before .before .before .before .before .before .before .ends-fit .ensures) ∙ h))
+write-message-requires c κs =
+    let at-ends-fit = c .before .before .before .before .before .before .before .before in
+    (λ h. omega arith, λ h. not-true _ (sym (at-ends-fit .ends-fit .ensures) ∙ h))
 
 returns : tie.Need-returns
 unfolding encode around cover packed endsFit
-returns c = same-outcome (c .before .before .write-message .ensures) _ _ _ refl (c .before .before .before .before .before .before .before .before .before .before .before .ends-fit .ensures) (λ h. rw (c .before .before .before .before .before .before .before .before .before .before .listed .ensures) (same-wrapped _ _ _ (append-nil _)))
+returns c =
+    let at-write-message = c .before .before in
+    let at-listed = at-write-message .before .before .before .before .before .before .before .before in
+    let at-ends-fit = at-listed .before in
+    same-outcome (at-write-message .write-message .ensures) _ _ _ refl (at-ends-fit .ends-fit .ensures)
+    (λ h. rw (at-listed .listed .ensures) (same-wrapped _ _ _ (append-nil _)))
 
 pub write-string-list-spec : {M : Type 1} → statement M
 write-string-list-spec =

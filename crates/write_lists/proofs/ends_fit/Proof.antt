@@ -20,13 +20,32 @@ loop-holds : tie.Need-loop-holds Inv-loop μ-loop
 loop-holds c = (search needs, refl)
 
 returns : tie.Need-returns Inv-loop μ-loop
-returns c = let a = c .before .before .before .before .args in let l = c .before .before .before .loop in let e : badEnds (a .size) (l .a) (drop (l .i) (a .ends .now)) ≡ true = ends-step (a .size) (l .a) (a .ends .now) (l .i) (c .before .before .loop-test .taken) ∙ rw (lt-ltb _ _ (c .if1 .taken)) in sym (ap not (sym (l .inv .1) ∙ e))
+returns c =
+    let at-turn = c .before .before in
+    let at-loop = at-turn .before in
+    let a = at-loop .before .args in
+    let l = at-loop .loop in
+    let e : badEnds (a .size) (l .a) (drop (l .i) (a .ends .now)) ≡ true = ends-step (a .size) (l .a) (a .ends .now) (l .i)
+    (at-turn .loop-test .taken)
+    ∙ rw (lt-ltb _ _ (c .if1 .taken)) in
+    sym (ap not (sym (l .inv .1) ∙ e))
 
 loop-again : tie.Need-loop-again Inv-loop μ-loop
-loop-again c = let a = c .before .before .before .before .args in let l = c .before .before .before .loop in (omega arith, sym (rw (le-ltb _ _ (c .if1 .left)) at (ends-step (a .size) (l .a) (a .ends .now) (l .i) (c .before .before .loop-test .taken))) ∙ l .inv .1)
+loop-again c =
+    let at-turn = c .before .before in
+    let at-loop = at-turn .before in
+    let a = at-loop .before .args in
+    let l = at-loop .loop in (
+      omega arith,
+      sym (rw (le-ltb _ _ (c .if1 .left)) at (ends-step (a .size) (l .a) (a .ends .now) (l .i) (at-turn .loop-test .taken))) ∙ l .inv .1,
+    )
 
 returns-2 : tie.Need-returns-2 Inv-loop μ-loop
-returns-2 c = let a = c .before .before .args in let l = c .before .loop in not-not _ ∙ ap not (sym (ends-done (a .size) (l .a) (a .ends .now) (l .i) (c .loop-test .left)) ∙ l .inv .1)
+returns-2 c =
+    let at-loop = c .before in
+    let a = at-loop .before .args in
+    let l = at-loop .loop in
+    not-not _ ∙ ap not (sym (ends-done (a .size) (l .a) (a .ends .now) (l .i) (c .loop-test .left)) ∙ l .inv .1)
 
 pub ends-fit-spec : {M : Type 1} → statement M
 ends-fit-spec =

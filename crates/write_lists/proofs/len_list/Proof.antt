@@ -31,10 +31,17 @@ add-n-2 : tie.Need-add-n-2 Inv-loop μ-loop
 add-n-2 c = omega (arith, c .before .before .before .before .loop .inv .1 .small)
 
 returns-2 : tie.Need-returns-2 Inv-loop μ-loop
-returns-2 c = (counted-long (c .before .before .before .before .before .loop .inv .1) (c .before .before .before .before .loop-test .taken) (omega arith), omega arith)
+returns-2 c =
+    let at-turn = c .before .before .before .before in
+    let at-loop = at-turn .before in
+    (counted-long (at-loop .loop .inv .1) (at-turn .loop-test .taken) (omega arith), omega arith)
 
 loop-again : tie.Need-loop-again Inv-loop μ-loop
-loop-again c = (omega arith, counted-more (c .before .before .before .before .before .loop .inv .1) (c .before .before .before .before .loop-test .taken) (c .before .len-head .ensures .0) (c .if2 .left))
+loop-again c =
+    let at-len-head = c .before in
+    let at-turn = at-len-head .before .before .before in
+    let at-loop = at-turn .before in
+    (omega arith, counted-more (at-loop .loop .inv .1) (at-turn .loop-test .taken) (at-len-head .len-head .ensures .0) (c .if2 .left))
 
 returns-3 : tie.Need-returns-3 Inv-loop μ-loop
 returns-3 c = (counted-end (c .before .loop .inv .1) (c .loop-test .left), omega (arith, c .before .loop .inv .1 .small))

@@ -19,10 +19,22 @@ add-n : tie.Need-add-n Inv-loop μ-loop
 add-n c = omega (arith, c .before .before .before .loop .inv .1 .small)
 
 returns : tie.Need-returns Inv-loop μ-loop
-returns c = (counted-long (c .before .before .before .before .loop .inv .1) (c .before .before .before .loop-test .taken) (c .before .len-varint .ensures .0) (c .if1 .taken), omega arith)
+returns c =
+    let at-len-varint = c .before in
+    let at-turn = at-len-varint .before .before in
+    let at-loop = at-turn .before in (
+      counted-long (at-loop .loop .inv .1) (at-turn .loop-test .taken) (at-len-varint .len-varint .ensures .0) (c .if1 .taken),
+      omega arith,
+    )
 
 loop-again : tie.Need-loop-again Inv-loop μ-loop
-loop-again c = (omega arith, counted-more (c .before .before .before .before .loop .inv .1) (c .before .before .before .loop-test .taken) (c .before .len-varint .ensures .0) (c .if1 .left))
+loop-again c =
+    let at-len-varint = c .before in
+    let at-turn = at-len-varint .before .before in
+    let at-loop = at-turn .before in (
+      omega arith,
+      counted-more (at-loop .loop .inv .1) (at-turn .loop-test .taken) (at-len-varint .len-varint .ensures .0) (c .if1 .left),
+    )
 
 returns-2 : tie.Need-returns-2 Inv-loop μ-loop
 returns-2 c = (counted-end (c .before .loop .inv .1) (c .loop-test .left), omega (arith, c .before .loop .inv .1 .small))

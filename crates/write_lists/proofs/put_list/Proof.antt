@@ -15,28 +15,63 @@ abbrev μ-loop : tie.MeasureT-loop
 μ-loop out₀ at f joined ends a₀ o₀ i₀ out a o i = length ends - i
 
 loop-holds : tie.Need-loop-holds Inv-loop μ-loop
-loop-holds c = let a = c .before .before .before .args in (search needs, record { good = c .before .before .before .pre .0; filling = fill-start (a .out .now) (a .at) (elementsFrom (a .f) (a .joined .now) (a .ends .now) 0 0) })
+loop-holds c =
+    let at-start = c .before .before .before in
+    let a = at-start .args in (
+      search needs,
+      record
+          { good = at-start .pre .0; filling = fill-start (a .out .now) (a .at) (elementsFrom (a .f) (a .joined .now) (a .ends .now) 0 0) },
+    )
 
 sub-put-head : tie.Need-sub-put-head Inv-loop μ-loop
 sub-put-head c = omega (arith, next-end (c .before .before .before .loop .inv .1 .good) (c .before .before .loop-test .taken) .up)
 
 put-head-requires : tie.Need-put-head-requires Inv-loop μ-loop
-put-head-requires c κs = omega (arith, listed-room (c .before .before .before .loop .inv .1) (c .before .before .loop-test .taken) (c .before .before .before .before .before .before .before .pre .1))
+put-head-requires c κs =
+    let at-turn = c .before .before in
+    let at-loop = at-turn .before in
+    let at-start = at-loop .before .before .before .before in
+    omega (arith, listed-room (at-loop .loop .inv .1) (at-turn .loop-test .taken) (at-start .pre .1))
 
 sub-put-raw : tie.Need-sub-put-raw Inv-loop μ-loop
-sub-put-raw c = omega (arith, next-end (c .before .before .before .before .before .before .before .loop .inv .1 .good) (c .before .before .before .before .before .before .loop-test .taken) .up)
+sub-put-raw c =
+    let at-turn = c .before .before .before .before .before .before in
+    let at-loop = at-turn .before in
+    omega (arith, next-end (at-loop .loop .inv .1 .good) (at-turn .loop-test .taken) .up)
 
 part-put-raw-start : tie.Need-part-put-raw-start Inv-loop μ-loop
-part-put-raw-start c = let n = next-end (c .before .before .before .before .before .before .before .loop .inv .1 .good) (c .before .before .before .before .before .before .loop-test .taken) in search needs
+part-put-raw-start c =
+    let at-turn = c .before .before .before .before .before .before in
+    let at-loop = at-turn .before in
+    let n = next-end (at-loop .loop .inv .1 .good) (at-turn .loop-test .taken) in
+    search needs
 
 part-put-raw-end : tie.Need-part-put-raw-end Inv-loop μ-loop
-part-put-raw-end c = let n = next-end (c .before .before .before .before .before .before .before .loop .inv .1 .good) (c .before .before .before .before .before .before .loop-test .taken) in search needs
+part-put-raw-end c =
+    let at-turn = c .before .before .before .before .before .before in
+    let at-loop = at-turn .before in
+    let n = next-end (at-loop .loop .inv .1 .good) (at-turn .loop-test .taken) in
+    search needs
 
 put-raw-requires : tie.Need-put-raw-requires Inv-loop μ-loop
-put-raw-requires c κs = let l = c .before .before .before .before .before .before .before .before .loop in let n = next-end (l .inv .1 .good) (c .before .before .before .before .before .before .before .loop-test .taken) in omega (arith, listed-room (l .inv .1) (c .before .before .before .before .before .before .before .loop-test .taken) (c .before .before .before .before .before .before .before .before .before .before .before .before .pre .1), length-part (c .before .before .before .before .before .before .before .before .before .before .before .before .args .joined .now) (l .a) (getD (c .before .before .before .before .before .before .before .before .before .before .before .before .args .ends .now) (l .i) 0) (n .up) (n .within))
+put-raw-requires c κs =
+    let at-turn = c .before .before .before .before .before .before .before in
+    let at-loop = at-turn .before in
+    let at-start = at-loop .before .before .before .before in
+    let l = at-loop .loop in
+    let n = next-end (l .inv .1 .good) (at-turn .loop-test .taken) in
+    omega
+    (arith, listed-room (l .inv .1) (at-turn .loop-test .taken) (at-start .pre .1), length-part (at-start .args .joined .now) (l .a) (getD (at-start .args .ends .now) (l .i) 0) (n .up) (n .within))
 
 loop-again : tie.Need-loop-again Inv-loop μ-loop
-loop-again c = (omega arith, listed-more (c .before .before .before .before .before .before .before .before .before .before .before .loop .inv .1) (c .before .before .before .before .before .before .before .before .before .before .loop-test .taken) (c .before .before .before .before .before .before .before .put-head .ensures) (c .before .before .put-raw .ensures))
+loop-again c =
+    let at-put-raw = c .before .before in
+    let at-put-head = at-put-raw .before .before .before .before .before in
+    let at-turn = at-put-head .before .before .before in
+    let at-loop = at-turn .before in (
+      omega arith,
+      listed-more (at-loop .loop .inv .1) (at-turn .loop-test .taken) (at-put-head .put-head .ensures) (at-put-raw .put-raw .ensures),
+    )
 
 same-length : tie.Need-same-length Inv-loop μ-loop
 same-length c = omega (arith, c .before .loop .inv .1 .filling .size)

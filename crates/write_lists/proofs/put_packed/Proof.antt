@@ -18,16 +18,36 @@ loop-holds : tie.Need-loop-holds Inv-loop μ-loop
 loop-holds c = let a = c .before .before .args in (search needs, fill-start (a .out .now) (a .at) (packed (a .numbers .now)))
 
 put-varint-requires : tie.Need-put-varint-requires Inv-loop μ-loop
-put-varint-requires c κs = let l = c .before .before .before .loop in let vs = c .before .before .before .before .before .before .args .numbers .now in fill-room (l .inv .1) (varint (getD vs (l .i) 0)) (packed (drop (l .i + 1) vs)) (next-number vs (l .i) (c .before .before .loop-test .taken)) (c .before .before .before .before .before .before .pre)
+put-varint-requires c κs =
+    let at-turn = c .before .before in
+    let at-loop = at-turn .before in
+    let at-start = at-loop .before .before .before in
+    let l = at-loop .loop in
+    let vs = at-start .args .numbers .now in
+    fill-room (l .inv .1) (varint (getD vs (l .i) 0)) (packed (drop (l .i + 1) vs))
+    (next-number vs (l .i) (at-turn .loop-test .taken)) (at-start .pre)
 
 loop-again : tie.Need-loop-again Inv-loop μ-loop
-loop-again c = let l = c .before .before .before .before .before .before .loop in (omega arith, fill-more (l .inv .1) _ (next-number (c .before .before .before .before .before .before .before .before .before .args .numbers .now) (l .i) (c .before .before .before .before .before .loop-test .taken)) (c .before .before .put-varint .ensures))
+loop-again c =
+    let at-put-varint = c .before .before in
+    let at-turn = at-put-varint .before .before .before in
+    let at-loop = at-turn .before in
+    let at-start = at-loop .before .before .before in
+    let l = at-loop .loop in (
+      omega arith,
+      fill-more (l .inv .1) _ (next-number (at-start .args .numbers .now) (l .i) (at-turn .loop-test .taken))
+          (at-put-varint .put-varint .ensures),
+    )
 
 same-length : tie.Need-same-length Inv-loop μ-loop
 same-length c = omega (arith, c .before .loop .inv .1 .size)
 
 returns : tie.Need-returns Inv-loop μ-loop
-returns c = let l = c .before .loop in fill-end (l .inv .1) (no-number (c .before .before .before .before .args .numbers .now) (l .i) (c .loop-test .left)) (c .before .before .before .before .pre)
+returns c =
+    let at-loop = c .before in
+    let at-start = at-loop .before .before .before in
+    let l = at-loop .loop in
+    fill-end (l .inv .1) (no-number (at-start .args .numbers .now) (l .i) (c .loop-test .left)) (at-start .pre)
 
 pub put-packed-spec : {M : Type 1} → statement M
 put-packed-spec =

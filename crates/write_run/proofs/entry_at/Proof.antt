@@ -7,11 +7,22 @@ use Rattle.write_run.proofs.entry_at.Tie as tie
 
 returns : tie.Need-returns
 unfolding entryAt entryOf
-returns c = rw (sym (c .before .before .before .before .before .before .tag-at .ensures) ∙ c .before .before .before .before .number .given .1, eq-eqb _ _ (c .before .before .if1 .taken), eq-eqb _ _ (c .before .if2 .taken)) (c .payload-at .ensures)
+returns c =
+    let at-if2 = c .before in
+    let at-if1 = at-if2 .before in
+    let at-number = at-if1 .before .before in
+    let at-tag-at = at-number .before .before in
+    rw
+    (sym (at-tag-at .tag-at .ensures) ∙ at-number .number .given .1, eq-eqb _ _ (at-if1 .if1 .taken), eq-eqb _ _ (at-if2 .if2 .taken))
+    (c .payload-at .ensures)
 
 returns-2 : tie.Need-returns-2
 unfolding entryAt entryOf
-returns-2 c = rw (sym (c .before .before .before .before .before .tag-at .ensures) ∙ c .before .before .before .number .given .1, eq-eqb _ _ (c .before .if1 .taken), ne-eqb _ _ (c .if2 .left))
+returns-2 c =
+    let at-if1 = c .before in
+    let at-number = at-if1 .before .before in
+    let at-tag-at = at-number .before .before in
+    rw (sym (at-tag-at .tag-at .ensures) ∙ at-number .number .given .1, eq-eqb _ _ (at-if1 .if1 .taken), ne-eqb _ _ (c .if2 .left))
 
 returns-3 : tie.Need-returns-3
 unfolding entryAt entryOf

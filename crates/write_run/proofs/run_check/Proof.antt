@@ -50,16 +50,8 @@ loop-holds c = (omega arith, refl)
 loop-less : tie.Need-loop-less Inv-loop μ-loop
 loop-less c = let h = after (c .before .before .before) _ (c .before .next .given .1) .0 in omega arith
 
-loop-again : tie.Need-loop-again Inv-loop μ-loop
-unfolding onEntry
-loop-again c = let h = after (c .before .before .before) _ (c .before .next .given .1) in (h .0 .1, h .1)
-
 loop-less-2 : tie.Need-loop-less-2 Inv-loop μ-loop
 loop-less-2 c = let h = after (c .before .before .before) _ (c .before .next2 .given .1) .0 in omega arith
-
-loop-again-2 : tie.Need-loop-again-2 Inv-loop μ-loop
-unfolding onEntry
-loop-again-2 c = let h = after (c .before .before .before) _ (c .before .next2 .given .1) in (h .0 .1, h .1)
 
 sub-check : tie.Need-sub-check Inv-loop μ-loop
 sub-check c = after (c .before .before .before) _ (c .before .start .given .1) .0 .1
@@ -71,27 +63,45 @@ part-check-end : tie.Need-part-check-end Inv-loop μ-loop
 part-check-end c = let h = after (c .before .before .before) _ (c .before .start .given .1) .0 in omega arith
 
 loop-less-3 : tie.Need-loop-less-3 Inv-loop μ-loop
-loop-less-3 c = let h = after (c .before .before .before .before .before .before .before) _ (c .before .before .before .before .before .start .given .1) .0 in omega arith
+loop-less-3 c =
+    let at-start = c .before .before .before .before .before in
+    let at-entry-at = at-start .before .before in
+    let h = after at-entry-at _ (at-start .start .given .1) .0 in
+    omega arith
 
 loop-again-3 : tie.Need-loop-again-3 Inv-loop μ-loop
 unfolding before
-loop-again-3 c = (after (c .before .before .before .before .before .before .before) _ (c .before .before .before .before .before .start .given .1) .0 .2, afterwards (c .before .before) _ (c .enum-told .given .1))
+loop-again-3 c =
+    let at-check = c .before .before in
+    let at-start = at-check .before .before .before in
+    let at-entry-at = at-start .before .before in
+    (after at-entry-at _ (at-start .start .given .1) .0 .2, afterwards at-check _ (c .enum-told .given .1))
 
 add-t20 : tie.Need-add-t20 Inv-loop μ-loop
-add-t20 c = let h = after (c .before .before .before .before .before .before .before .before) _ (c .before .before .before .before .before .before .start .given .1) .0 in let s = c .before .before .before .before .before .before .before .before .before .before .before .before .args .s .now in let p : List ℕ = part s (c .before .before .before .before .before .before .start .given .0 .0) (c .before .before .before .before .before .before .start .given .0 .1 .0) in let q = subst (Placed p) (sym (c .before .before .before .check .ensures) ∙ c .before .refusal .given .1) (placed 11 p 0) in omega (arith, length-part s (c .before .before .before .before .before .before .start .given .0 .0) (c .before .before .before .before .before .before .start .given .0 .1 .0) (h .1) (h .2), q)
+add-t20 c =
+    let at-refusal = c .before in
+    let at-check = at-refusal .before .before in
+    let at-start = at-check .before .before .before in
+    let at-entry-at = at-start .before .before in
+    let at-start' = at-entry-at .before .before .before .before in
+    let h = after at-entry-at _ (at-start .start .given .1) .0 in
+    let s = at-start' .args .s .now in
+    let p : List ℕ = part s (at-start .start .given .0 .0) (at-start .start .given .0 .1 .0) in
+    let q = subst (Placed p) (sym (at-check .check .ensures) ∙ at-refusal .refusal .given .1) (placed 11 p 0) in
+    omega (arith, length-part s (at-start .start .given .0 .0) (at-start .start .given .0 .1 .0) (h .1) (h .2), q)
 
 returns : tie.Need-returns Inv-loop μ-loop
 unfolding before
 returns c = afterwards (c .before .before .before) _ (c .before .refusal .given .1)
 
-returns-2 : tie.Need-returns-2 Inv-loop μ-loop
-unfolding onEntry
-returns-2 c = after (c .before .before .before) _ (c .before .refusal2 .given .1) .1
-
 returns-3 : tie.Need-returns-3 Inv-loop μ-loop
-returns-3 c = sym (run-end (c .before .before .before .args .field) (c .before .before .before .args .s .now) (c .before .loop .at) (c .loop-test .left)) ∙ c .before .loop .inv .1
+returns-3 c =
+    let at-loop = c .before in
+    let at-start = at-loop .before .before in
+    sym (run-end (at-start .args .field) (at-start .args .s .now) (at-loop .loop .at) (c .loop-test .left)) ∙ at-loop .loop .inv .1
 
 pub run-check-spec : {M : Type 1} → statement M
+unfolding onEntry
 run-check-spec =
     tie.close
     (tie.spec
@@ -101,10 +111,10 @@ run-check-spec =
     (λ c κs. search needs)
     (λ c. search needs)
     loop-less
-    loop-again
+    (λ c. let h = after (c .before .before .before) _ (c .before .next .given .1) in (h .0 .1, h .1))
     (λ c. search needs)
     loop-less-2
-    loop-again-2
+    (λ c. let h = after (c .before .before .before) _ (c .before .next2 .given .1) in (h .0 .1, h .1))
     (λ c. search needs)
     sub-check
     part-check-start
@@ -117,5 +127,5 @@ run-check-spec =
     add-t20
     returns
     (λ c. search needs)
-    returns-2
+    (λ c. after (c .before .before .before) _ (c .before .refusal2 .given .1) .1)
     returns-3)

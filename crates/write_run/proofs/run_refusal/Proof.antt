@@ -7,7 +7,12 @@ use Rattle.write_run.proofs.run_refusal.Tie as tie
 
 returns : tie.Need-returns
 unfolding runRefusal checkNumber
-returns c = rw (sym (c .before .before .before .before .run-check .ensures) ∙ c .before .before .enum-told .given .1, sym (c .before .entries-fit .ensures) ∙ c .if1 .taken)
+returns c =
+    let at-entries-fit = c .before in
+    let at-enum-told = at-entries-fit .before in
+    let at-run-check = at-enum-told .before .before in
+    rw
+    (sym (at-run-check .run-check .ensures) ∙ at-enum-told .enum-told .given .1, sym (at-entries-fit .entries-fit .ensures) ∙ c .if1 .taken)
 
 returns-2 : tie.Need-returns-2
 unfolding runRefusal checkNumber
@@ -15,7 +20,12 @@ returns-2 c = rw (sym (c .before .before .before .run-check .ensures) ∙ c .bef
 
 returns-3 : tie.Need-returns-3
 unfolding runRefusal checkNumber
-returns-3 c = rw (sym (c .before .before .before .before .run-check .ensures) ∙ c .before .before .enum-told .given .1, sym (c .before .entries-fit .ensures) ∙ c .if1 .left)
+returns-3 c =
+    let at-entries-fit = c .before in
+    let at-enum-told = at-entries-fit .before in
+    let at-run-check = at-enum-told .before .before in
+    rw
+    (sym (at-run-check .run-check .ensures) ∙ at-enum-told .enum-told .given .1, sym (at-entries-fit .entries-fit .ensures) ∙ c .if1 .left)
 
 pub run-refusal-spec : {M : Type 1} → statement M
 run-refusal-spec =

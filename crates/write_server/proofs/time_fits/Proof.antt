@@ -11,7 +11,11 @@ returns c = search tests
 
 returns-2 : tie.Need-returns-2
 unfolding timeFits
-returns-2 c = rw (ne-eqb (c .before .before .before .args .member) 0 (c .before .before .if1 .left), ← c .before .moment-fits .ensures) (c .both .ensures)
+returns-2 c =
+    let at-moment-fits = c .before in
+    let at-if1 = at-moment-fits .before in
+    let at-start = at-if1 .before in
+    rw (ne-eqb (at-start .args .member) 0 (at-if1 .if1 .left), ← at-moment-fits .moment-fits .ensures) (c .both .ensures)
 
 pub time-fits-spec : {M : Type 1} → statement M
 time-fits-spec = tie.close (tie.spec returns (λ c κs. search needs) (λ c κs. search needs) returns-2)

@@ -9,11 +9,21 @@ use Rattle.write_server.proofs.write_note.Statement.{statement}
 use Rattle.write_server.proofs.write_note.Tie as tie
 
 write-plain-requires : tie.Need-write-plain-requires
-write-plain-requires c κs = λ h. let m = note-member (c .before .before .before .before .before .before .before .before .before .args .member) (c .before .before .before .before .before .before .both .ensures) h in omega arith
+write-plain-requires c κs =
+    let at-both = c .before .before .before .before .before .before in
+    let at-start = at-both .before .before .before in
+    λ h. let m = note-member (at-start .args .member) (at-both .both .ensures) h in omega arith
 
 returns : tie.Need-returns
 unfolding encode around cover
-returns c = same-outcome (c .before .before .write-plain .ensures) _ _ _ refl (c .before .before .before .before .before .before .before .before .before .both .ensures) (λ h. let m = note-member (c .before .before .before .before .before .before .before .before .before .before .before .before .args .member) refl h in rw (c .before .before .before .before .before .before .before .before .listed .ensures) (same-note (c .before .before .before .before .before .before .before .before .before .before .before .before .args .member) _ (c .before .before .before .before .before .before .before .before .before .before .before .before .args .note .now) (λ z. omega arith) refl))
+returns c =
+    let at-write-plain = c .before .before in
+    let at-listed = at-write-plain .before .before .before .before .before .before in
+    let at-both = at-listed .before in
+    let at-start = at-both .before .before .before in
+    same-outcome (at-write-plain .write-plain .ensures) _ _ _ refl (at-both .both .ensures)
+    (λ h. let m = note-member (at-start .args .member) refl h in rw (at-listed .listed .ensures)
+    (same-note (at-start .args .member) _ (at-start .args .note .now) (λ z. omega arith) refl))
 
 pub write-note-spec : {M : Type 1} → statement M
 write-note-spec =

@@ -14,11 +14,30 @@ use Rattle.write_server.proofs.write_server_hello.Statement.{statement}
 use Rattle.write_server.proofs.write_server_hello.Tie as tie
 
 write-message-requires : tie.Need-write-message-requires
-write-message-requires c κs = (λ h. member-small 1 1 _ (omega arith) (c .before .before .before .before .before .before .before .before .before .member-in .ensures) (both-true _ (c .before .before .before .before .before .before .before .before .ends-fit .result) (sym (c .before .before .before .before .before .before .before .both .ensures) ∙ h) .0), λ h. not-true _ (sym (c .before .before .before .before .before .before .before .before .ends-fit .ensures) ∙ both-true (c .before .before .before .before .before .before .before .before .before .member-in .result) _ (sym (c .before .before .before .before .before .before .before .both .ensures) ∙ h) .1))
+write-message-requires c κs =
+    let at-both = c .before .before .before .before .before .before .before in
+    let at-ends-fit = at-both .before in
+    let at-member-in = at-ends-fit .before in (
+      λ h. member-small 1 1 _ (omega arith) (at-member-in .member-in .ensures)
+          (both-true _ (at-ends-fit .ends-fit .result) (sym (at-both .both .ensures) ∙ h) .0),
+      λ h. not-true _
+          (sym (at-ends-fit .ends-fit .ensures) ∙ both-true (at-member-in .member-in .result) _ (sym (at-both .both .ensures) ∙ h) .1),
+    )
 
 returns : tie.Need-returns
 unfolding encode around cover packed endsFit
-returns c = same-outcome (c .before .before .write-message .ensures) _ _ _ refl (both-same (c .before .before .before .before .before .before .before .before .before .before .both .ensures) (c .before .before .before .before .before .before .before .before .before .before .before .before .member-in .ensures) (c .before .before .before .before .before .before .before .before .before .before .before .ends-fit .ensures)) (λ h. rw (c .before .before .before .before .before .before .before .before .listed .ensures, c .before .before .before .before .before .before .before .before .before .flag .ensures) (same-wrapped _ _ _ (rw (append-nil (elements 3 (cutAt (c .before .before .before .before .before .before .before .before .before .before .before .before .before .before .before .before .before .before .args .joined .now) 0 (c .before .before .before .before .before .before .before .before .before .before .before .before .before .before .before .before .before .before .args .ends .now)))))))
+returns c =
+    let at-write-message = c .before .before in
+    let at-listed = at-write-message .before .before .before .before .before .before in
+    let at-flag = at-listed .before in
+    let at-both = at-flag .before in
+    let at-ends-fit = at-both .before in
+    let at-member-in = at-ends-fit .before in
+    let at-start = at-member-in .before .before .before .before .before .before in
+    same-outcome (at-write-message .write-message .ensures) _ _ _ refl
+    (both-same (at-both .both .ensures) (at-member-in .member-in .ensures) (at-ends-fit .ends-fit .ensures))
+    (λ h. rw (at-listed .listed .ensures, at-flag .flag .ensures)
+    (same-wrapped _ _ _ (rw (append-nil (elements 3 (cutAt (at-start .args .joined .now) 0 (at-start .args .ends .now)))))))
 
 pub write-server-hello-spec : {M : Type 1} → statement M
 write-server-hello-spec =

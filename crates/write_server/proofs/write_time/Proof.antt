@@ -12,7 +12,12 @@ write-plain-requires c κs = λ h. time-small _ _ (c .before .before .before .be
 
 returns : tie.Need-returns
 unfolding encode around cover
-returns c = same-outcome (c .before .before .write-plain .ensures) _ _ _ refl (c .before .before .before .before .before .before .before .before .before .before .time-fits .ensures) (λ h. rw (c .before .before .before .before .before .before .before .before .before .numbered .ensures) (same-wrapped _ _ _ refl))
+returns c =
+    let at-write-plain = c .before .before in
+    let at-numbered = at-write-plain .before .before .before .before .before .before .before in
+    let at-time-fits = at-numbered .before in
+    same-outcome (at-write-plain .write-plain .ensures) _ _ _ refl (at-time-fits .time-fits .ensures)
+    (λ h. rw (at-numbered .numbered .ensures) (same-wrapped _ _ _ refl))
 
 pub write-time-spec : {M : Type 1} → statement M
 write-time-spec =

@@ -6,7 +6,15 @@ use Rattle.replay_lines.proofs.end.put_end.Tie as tie
 
 returns : tie.Need-returns
 unfolding endLine
-returns c = then (then (then (then (c .before .before .before .before .before .before .before .before .before .before .before .before .before .before .before .before .before .before .before .before .put-raw .ensures) (c .before .before .before .before .before .before .before .before .before .before .before .before .before .before .before .before .put-decimal .ensures .0)) (c .before .before .before .before .before .before .before .before .before .before .before .put-raw2 .ensures)) (c .before .before .before .before .before .before .before .put-ending .ensures .0)) (c .before .before .put-raw3 .ensures)
+returns c =
+    let at-put-raw3 = c .before .before in
+    let at-put-ending = at-put-raw3 .before .before .before .before .before in
+    let at-put-raw2 = at-put-ending .before .before .before .before in
+    let at-put-decimal = at-put-raw2 .before .before .before .before .before in
+    let at-put-raw = at-put-decimal .before .before .before .before in
+    then
+    (then (then (then (at-put-raw .put-raw .ensures) (at-put-decimal .put-decimal .ensures .0)) (at-put-raw2 .put-raw2 .ensures))
+    (at-put-ending .put-ending .ensures .0)) (at-put-raw3 .put-raw3 .ensures)
 
 pub put-end-spec : {M : Type 1} → statement M
 put-end-spec =

@@ -8,15 +8,32 @@ use Rattle.replay_lines.proofs.end.put_ending.Tie as tie
 
 returns : tie.Need-returns
 unfolding ending
-returns c = let a = c .before .before .before .before .before .args in rw (c .before .before .end .given .1, eq-eqb _ 0 (c .if1 .taken)) (nothing (a .out .now) (a .at) (omega arith), omega arith)
+returns c =
+    let at-end = c .before .before in
+    let a = at-end .before .before .before .args in
+    rw (at-end .end .given .1, eq-eqb _ 0 (c .if1 .taken)) (nothing (a .out .now) (a .at) (omega arith), omega arith)
 
 returns-2 : tie.Need-returns-2
 unfolding ending
-returns-2 c = rw (c .before .before .before .before .before .before .before .before .before .before .before .before .before .before .before .before .end .given .1, ne-eqb _ 0 (c .before .before .before .before .before .before .before .before .before .before .before .before .before .before .if1 .left)) (then (then (c .before .before .before .before .before .before .before .before .before .before .before .put-raw .ensures) (c .before .before .before .before .before .before .before .put-decimal .ensures .0)) (c .before .before .put-raw2 .ensures), omega arith)
+returns-2 c =
+    let at-put-raw2 = c .before .before in
+    let at-put-decimal = at-put-raw2 .before .before .before .before .before in
+    let at-put-raw = at-put-decimal .before .before .before .before in
+    let at-if1 = at-put-raw .before .before .before in
+    let at-end = at-if1 .before .before in
+    rw (at-end .end .given .1, ne-eqb _ 0 (at-if1 .if1 .left))
+    (then (then (at-put-raw .put-raw .ensures) (at-put-decimal .put-decimal .ensures .0)) (at-put-raw2 .put-raw2 .ensures), omega arith)
 
 returns-3 : tie.Need-returns-3
 unfolding ending
-returns-3 c = rw (c .before .before .before .before .before .before .before .before .before .before .before .before .before .before .before .before .before .before .before .end2 .given .1) (then (then (then (c .before .before .before .before .before .before .before .before .before .before .before .before .before .before .before .put-raw3 .ensures) (c .before .before .before .before .before .before .before .before .before .before .before .put-decimal2 .ensures .0)) (c .before .before .before .before .before .before .put-raw4 .ensures)) (c .before .before .put-decimal3 .ensures .0), omega arith)
+returns-3 c =
+    let at-put-decimal3 = c .before .before in
+    let at-put-raw4 = at-put-decimal3 .before .before .before .before in
+    let at-put-decimal2 = at-put-raw4 .before .before .before .before .before in
+    let at-put-raw3 = at-put-decimal2 .before .before .before .before in
+    let at-end2 = at-put-raw3 .before .before .before .before in
+    rw (at-end2 .end2 .given .1)
+    (then (then (then (at-put-raw3 .put-raw3 .ensures) (at-put-decimal2 .put-decimal2 .ensures .0)) (at-put-raw4 .put-raw4 .ensures)) (at-put-decimal3 .put-decimal3 .ensures .0), omega arith)
 
 returns-4 : tie.Need-returns-4
 unfolding ending

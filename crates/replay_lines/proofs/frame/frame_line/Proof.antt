@@ -4,7 +4,11 @@ use Rattle.replay_lines.proofs.frame.frame_line.Statement.{statement}
 use Rattle.replay_lines.proofs.frame.frame_line.Tie as tie
 
 returns : tie.Need-returns
-returns c = rw (← c .before .before .before .member-of .ensures) (room (c .before .before .before .before .before .if1 .taken) (c .before .before .put-frame .ensures))
+returns c =
+    let at-put-frame = c .before .before in
+    let at-member-of = at-put-frame .before in
+    let at-if1 = at-member-of .before .before in
+    rw (← at-member-of .member-of .ensures) (room (at-if1 .if1 .taken) (at-put-frame .put-frame .ensures))
 
 returns-2 : tie.Need-returns-2
 returns-2 c = no-room _ _ (c .if1 .left)

@@ -5,7 +5,13 @@ use Rattle.replay_lines.proofs.frame.put_heading.Statement.{statement}
 use Rattle.replay_lines.proofs.frame.put_heading.Tie as tie
 
 returns : tie.Need-returns
-returns c = (then (then (c .before .before .before .before .before .before .before .before .before .before .before .put-raw .ensures) (c .before .before .before .before .before .before .before .put-decimal .ensures .0)) (c .before .before .put-raw2 .ensures), omega arith)
+returns c =
+    let at-put-raw2 = c .before .before in
+    let at-put-decimal = at-put-raw2 .before .before .before .before .before in
+    let at-put-raw = at-put-decimal .before .before .before .before in (
+      then (then (at-put-raw .put-raw .ensures) (at-put-decimal .put-decimal .ensures .0)) (at-put-raw2 .put-raw2 .ensures),
+      omega arith,
+    )
 
 pub put-heading-spec : {M : Type 1} → statement M
 put-heading-spec =

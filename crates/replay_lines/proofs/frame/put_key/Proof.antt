@@ -8,7 +8,13 @@ use Rattle.replay_lines.proofs.frame.put_key.Tie as tie
 
 returns : tie.Need-returns
 unfolding keyText
-returns c = rw (eq-eqb (c .before .before .before .before .before .before .before .before .before .before .before .args .refusal) 8 (c .before .before .before .before .before .before .before .before .before .if1 .taken)) (then (c .before .before .before .before .before .before .put-raw .ensures) (c .before .before .put-decimal .ensures .0), omega arith)
+returns c =
+    let at-put-decimal = c .before .before in
+    let at-put-raw = at-put-decimal .before .before .before .before in
+    let at-if1 = at-put-raw .before .before .before in
+    let at-start = at-if1 .before .before in
+    rw (eq-eqb (at-start .args .refusal) 8 (at-if1 .if1 .taken))
+    (then (at-put-raw .put-raw .ensures) (at-put-decimal .put-decimal .ensures .0), omega arith)
 
 returns-2 : tie.Need-returns-2
 unfolding keyText

@@ -11,7 +11,14 @@ returns c = let a = c .before .before .before .args in rw (c .enum-told .given .
 
 returns-2 : tie.Need-returns-2
 unfolding pointText
-returns-2 c = rw (c .before .before .before .before .before .before .before .before .before .before .before .before .before .before .before .before .before .before .before .point .given .1) (then (then (then (c .before .before .before .before .before .before .before .before .before .before .before .before .before .before .before .put-raw .ensures) (c .before .before .before .before .before .before .before .before .before .before .before .put-decimal .ensures .0)) (c .before .before .before .before .before .before .put-raw2 .ensures)) (c .before .before .put-nine .ensures), omega arith)
+returns-2 c =
+    let at-put-nine = c .before .before in
+    let at-put-raw2 = at-put-nine .before .before .before .before in
+    let at-put-decimal = at-put-raw2 .before .before .before .before .before in
+    let at-put-raw = at-put-decimal .before .before .before .before in
+    let at-point = at-put-raw .before .before .before .before in
+    rw (at-point .point .given .1)
+    (then (then (then (at-put-raw .put-raw .ensures) (at-put-decimal .put-decimal .ensures .0)) (at-put-raw2 .put-raw2 .ensures)) (at-put-nine .put-nine .ensures), omega arith)
 
 pub put-point-spec : {M : Type 1} → statement M
 put-point-spec =

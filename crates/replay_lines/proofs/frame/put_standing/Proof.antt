@@ -5,7 +5,15 @@ use Rattle.replay_lines.proofs.frame.put_standing.Statement.{statement}
 use Rattle.replay_lines.proofs.frame.put_standing.Tie as tie
 
 returns : tie.Need-returns
-returns c = (then (then (then (c .before .before .before .before .before .before .before .before .before .before .before .before .before .before .before .put-raw .ensures) (c .before .before .before .before .before .before .before .before .before .before .before .put-state .ensures .0)) (c .before .before .before .before .before .before .put-raw2 .ensures)) (c .before .before .put-decimal .ensures .0), omega arith)
+returns c =
+    let at-put-decimal = c .before .before in
+    let at-put-raw2 = at-put-decimal .before .before .before .before in
+    let at-put-state = at-put-raw2 .before .before .before .before .before in
+    let at-put-raw = at-put-state .before .before .before .before in (
+      then (then (then (at-put-raw .put-raw .ensures) (at-put-state .put-state .ensures .0)) (at-put-raw2 .put-raw2 .ensures))
+          (at-put-decimal .put-decimal .ensures .0),
+      omega arith,
+    )
 
 pub put-standing-spec : {M : Type 1} → statement M
 put-standing-spec =

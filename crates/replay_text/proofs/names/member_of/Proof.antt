@@ -5,19 +5,8 @@ use borrow.Author.Needs.{needs}
 use Rattle.replay_text.proofs.names.member_of.Statement.{statement}
 use Rattle.replay_text.proofs.names.member_of.Tie as tie
 
-returns : tie.Need-returns
-unfolding memberOf memberFrom
-returns c = rw (sym (c .before .before .last-in .ensures) ∙ c .enum-told .given .1)
-
-returns-2 : tie.Need-returns-2
-unfolding memberOf memberFrom
-returns-2 c = rw (sym (c .before .before .before .last-in .ensures) ∙ c .before .number .given .1)
-
-returns-3 : tie.Need-returns-3
-unfolding memberOf memberFrom
-returns-3 c = rw (sym (c .before .before .before .last-in .ensures) ∙ c .before .number2 .given .1)
-
 pub member-of-spec : {M : Type 1} → statement M
+unfolding memberOf memberFrom
 member-of-spec =
     tie.close
     (tie.spec
@@ -25,6 +14,6 @@ member-of-spec =
     (λ c. search needs)
     (λ c. search needs)
     (λ c. search needs)
-    returns
-    returns-2
-    returns-3)
+    (λ c. rw (sym (c .before .before .last-in .ensures) ∙ c .enum-told .given .1))
+    (λ c. rw (sym (c .before .before .before .last-in .ensures) ∙ c .before .number .given .1))
+    (λ c. rw (sym (c .before .before .before .last-in .ensures) ∙ c .before .number2 .given .1)))

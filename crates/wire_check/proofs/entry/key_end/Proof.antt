@@ -7,9 +7,6 @@ use Rattle.wire_check.proofs.Entries.{no-value}
 use Rattle.wire_check.proofs.entry.key_end.Statement.{statement}
 use Rattle.wire_check.proofs.entry.key_end.Tie as tie
 
-returns : tie.Need-returns
-returns c = no-value _ (omega arith)
-
 returns-2 : tie.Need-returns-2
 unfolding keyEnd
 returns-2 c = rw (ne-eqb _ 10 (c .if2 .taken))
@@ -17,9 +14,6 @@ returns-2 c = rw (ne-eqb _ 10 (c .if2 .taken))
 returns-3 : tie.Need-returns-3
 unfolding keyEnd
 returns-3 c = let w = c .before in rw (eq-eqb _ 10 (w .before .before .if2 .left), sym (w .wide .ensures), le-ltb _ 128 (c .if3 .taken))
-
-returns-4 : tie.Need-returns-4
-returns-4 c = no-value _ (omega arith)
 
 returns-5 : tie.Need-returns-5
 unfolding keyEnd
@@ -30,12 +24,12 @@ pub key-end-spec : {M : Type 1} → statement M
 key-end-spec =
     tie.close
     (tie.spec
-    returns
+    (λ c. no-value _ (omega arith))
     (λ c. search needs)
     returns-2
     (λ c. search needs)
     (λ c κs. search needs)
     returns-3
     (λ c. search needs)
-    returns-4
+    (λ c. no-value _ (omega arith))
     returns-5)

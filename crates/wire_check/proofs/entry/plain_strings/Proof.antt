@@ -20,16 +20,15 @@ abbrev μ-loop : tie.MeasureT-loop
 loop-holds : tie.Need-loop-holds Inv-loop μ-loop
 loop-holds c = (omega arith, refl)
 
-returns : tie.Need-returns Inv-loop μ-loop
-returns c = unsaid
-
 -- past a string: how far it reaches, and that the check goes on there
 past : (c : tie.After-known-told Inv-loop μ-loop)
     → Passed (c .before .before .before .before .before .before .before .before .before .args .s .now) (c .before .before .before .before .before .before .before .loop .at) (c .before .end .given .0 .1 .0)
-past c = let v = c .before in
-    let p = v .before .before in
+past c =
+    let at-start = c .before in
+    let p = at-start .before .before in
     let l = p .before .before .before in
-    passed (l .before .before .before .args .s .now) (l .before .loop .at) (v .end .given .0 .0) (v .end .given .0 .1 .0) (l .loop-test .taken) (p .before .if1 .left) (found-part _ _ _ (p .part-found .ensures) _ _ (v .end .given .1))
+    passed (l .before .before .before .args .s .now) (l .before .loop .at) (at-start .end .given .0 .0) (at-start .end .given .0 .1 .0)
+    (l .loop-test .taken) (p .before .if1 .left) (found-part _ _ _ (p .part-found .ensures) _ _ (at-start .end .given .1))
 
 loop-less : tie.Need-loop-less Inv-loop μ-loop
 loop-less c = let h = past c in omega arith
@@ -37,11 +36,11 @@ loop-less c = let h = past c in omega arith
 loop-again : tie.Need-loop-again Inv-loop μ-loop
 loop-again c = let h = past c in (h .1, sym (h .2) ∙ c .before .before .before .before .before .before .before .loop .inv .1)
 
-returns-2 : tie.Need-returns-2 Inv-loop μ-loop
-returns-2 c = unsaid
-
 returns-3 : tie.Need-returns-3 Inv-loop μ-loop
-returns-3 c = let a = c .before .before .before .args in λ _. sym (c .before .loop .inv .1) ∙ at-end StringList (a .s .now) (c .before .loop .at) (c .loop-test .left)
+returns-3 c =
+    let at-loop = c .before in
+    let a = at-loop .before .before .args in
+    λ _. sym (at-loop .loop .inv .1) ∙ at-end StringList (a .s .now) (at-loop .loop .at) (c .loop-test .left)
 
 pub plain-strings-spec : {M : Type 1} → statement M
 plain-strings-spec =
@@ -51,12 +50,12 @@ plain-strings-spec =
     μ-loop
     loop-holds
     (λ c. search needs)
-    returns
+    (λ c. unsaid)
     (λ c. search needs)
     (λ c κs. search needs)
     (λ c. search needs)
     loop-less
     loop-again
     (λ c. search needs)
-    returns-2
+    (λ c. unsaid)
     returns-3)

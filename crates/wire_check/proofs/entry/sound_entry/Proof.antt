@@ -31,12 +31,6 @@ returns-3 c = let v = c .before .before .before in
     let p = v .before .before in
     λ fine. subst (Formed (p .before .before .args .s .now)) (v .start .given .1) (p .plain-entry .ensures) .1 (c .plain-strings .ensures fine)
 
-returns-4 : tie.Need-returns-4
-returns-4 c = unsaid
-
-returns-5 : tie.Need-returns-5
-returns-5 c = unsaid
-
 pub sound-entry-spec : {M : Type 1} → statement M
 sound-entry-spec =
     tie.close
@@ -54,5 +48,5 @@ sound-entry-spec =
     returns
     returns-2
     returns-3
-    returns-4
-    returns-5)
+    (λ c. unsaid)
+    (λ c. unsaid))

@@ -23,28 +23,77 @@ unfolding entries
 loop-holds c = rw (all-elements (c .before .args .number) (c .before .args .s .now))
 
 sub-entry-fits : tie.Need-sub-entry-fits Inv-loop μ-loop
-sub-entry-fits c = found-lies (c .before .before .before .before .before .before .args .number) (c .before .before .before .before .before .before .args .s .now) (c .before .before .before .before .loop .at) (sym (c .before .before .before .next-part .ensures) ∙ c .before .start .given .1) .1
+sub-entry-fits c =
+    let at-start = c .before in
+    let at-next-part = at-start .before .before in
+    let at-loop = at-next-part .before in
+    let at-start' = at-loop .before .before in
+    found-lies (at-start' .args .number) (at-start' .args .s .now) (at-loop .loop .at)
+    (sym (at-next-part .next-part .ensures) ∙ at-start .start .given .1) .1
 
 part-entry-fits-start : tie.Need-part-entry-fits-start Inv-loop μ-loop
-part-entry-fits-start c = let h = found-lies (c .before .before .before .before .before .before .args .number) (c .before .before .before .before .before .before .args .s .now) (c .before .before .before .before .loop .at) (sym (c .before .before .before .next-part .ensures) ∙ c .before .start .given .1) in omega arith
+part-entry-fits-start c =
+    let at-start = c .before in
+    let at-next-part = at-start .before .before in
+    let at-loop = at-next-part .before in
+    let at-start' = at-loop .before .before in
+    let h = found-lies (at-start' .args .number) (at-start' .args .s .now) (at-loop .loop .at)
+    (sym (at-next-part .next-part .ensures) ∙ at-start .start .given .1) in
+    omega arith
 
 part-entry-fits-end : tie.Need-part-entry-fits-end Inv-loop μ-loop
-part-entry-fits-end c = let h = found-lies (c .before .before .before .before .before .before .args .number) (c .before .before .before .before .before .before .args .s .now) (c .before .before .before .before .loop .at) (sym (c .before .before .before .next-part .ensures) ∙ c .before .start .given .1) in omega arith
+part-entry-fits-end c =
+    let at-start = c .before in
+    let at-next-part = at-start .before .before in
+    let at-loop = at-next-part .before in
+    let at-start' = at-loop .before .before in
+    let h = found-lies (at-start' .args .number) (at-start' .args .s .now) (at-loop .loop .at)
+    (sym (at-next-part .next-part .ensures) ∙ at-start .start .given .1) in
+    omega arith
 
 loop-less : tie.Need-loop-less Inv-loop μ-loop
-loop-less c = let h = found-lies (c .before .before .before .before .before .before .before .before .before .args .number) (c .before .before .before .before .before .before .before .before .before .args .s .now) (c .before .before .before .before .before .before .before .loop .at) (sym (c .before .before .before .before .before .before .next-part .ensures) ∙ c .before .before .before .before .start .given .1) in omega arith
+loop-less c =
+    let at-start = c .before .before .before .before in
+    let at-next-part = at-start .before .before in
+    let at-loop = at-next-part .before in
+    let at-start' = at-loop .before .before in
+    let h = found-lies (at-start' .args .number) (at-start' .args .s .now) (at-loop .loop .at)
+    (sym (at-next-part .next-part .ensures) ∙ at-start .start .given .1) in
+    omega arith
 
 loop-again : tie.Need-loop-again Inv-loop μ-loop
 unfolding entriesFit
-loop-again c = rw (found-part (c .before .before .before .before .before .before .before .before .before .args .number) (c .before .before .before .before .before .before .before .before .before .args .s .now) (c .before .before .before .before .before .before .before .loop .at) (sym (c .before .before .before .before .before .before .next-part .ensures) ∙ c .before .before .before .before .start .given .1), sym (c .before .entry-fits .ensures) ∙ c .if1 .taken) at (c .before .before .before .before .before .before .before .loop .inv)
+loop-again c =
+    let at-entry-fits = c .before in
+    let at-start = at-entry-fits .before .before .before in
+    let at-next-part = at-start .before .before in
+    let at-loop = at-next-part .before in
+    let at-start' = at-loop .before .before in
+    rw
+    (found-part (at-start' .args .number) (at-start' .args .s .now) (at-loop .loop .at) (sym (at-next-part .next-part .ensures) ∙ at-start .start .given .1), sym (at-entry-fits .entry-fits .ensures) ∙ c .if1 .taken)
+    at (at-loop .loop .inv)
 
 returns : tie.Need-returns Inv-loop μ-loop
 unfolding entriesFit
-returns c = rw (found-part (c .before .before .before .before .before .before .before .before .before .args .number) (c .before .before .before .before .before .before .before .before .before .args .s .now) (c .before .before .before .before .before .before .before .loop .at) (sym (c .before .before .before .before .before .before .next-part .ensures) ∙ c .before .before .before .before .start .given .1), sym (c .before .entry-fits .ensures) ∙ c .if1 .left) at (c .before .before .before .before .before .before .before .loop .inv)
+returns c =
+    let at-entry-fits = c .before in
+    let at-start = at-entry-fits .before .before .before in
+    let at-next-part = at-start .before .before in
+    let at-loop = at-next-part .before in
+    let at-start' = at-loop .before .before in
+    rw
+    (found-part (at-start' .args .number) (at-start' .args .s .now) (at-loop .loop .at) (sym (at-next-part .next-part .ensures) ∙ at-start .start .given .1), sym (at-entry-fits .entry-fits .ensures) ∙ c .if1 .left)
+    at (at-loop .loop .inv)
 
 returns-2 : tie.Need-returns-2 Inv-loop μ-loop
 unfolding entriesFit
-returns-2 c = rw (found-none (c .before .before .before .before .before .args .number) (c .before .before .before .before .before .args .s .now) (c .before .before .before .loop .at) (sym (c .before .before .next-part .ensures) ∙ c .enum-told .given .1)) at (c .before .before .before .loop .inv)
+returns-2 c =
+    let at-next-part = c .before .before in
+    let at-loop = at-next-part .before in
+    let at-start = at-loop .before .before in
+    rw
+    (found-none (at-start .args .number) (at-start .args .s .now) (at-loop .loop .at)
+    (sym (at-next-part .next-part .ensures) ∙ c .enum-told .given .1)) at (at-loop .loop .inv)
 
 pub entries-fit-spec : {M : Type 1} → statement M
 entries-fit-spec =

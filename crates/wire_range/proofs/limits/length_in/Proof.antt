@@ -10,7 +10,11 @@ sub-result : tie.Need-sub-result
 sub-result c = let a = c .before .before .before .args in rw (c .before .part-in .ensures) (span-lies (a .s .now) (a .number) .0)
 
 returns : tie.Need-returns
-returns c = let a = c .before .before .before .args in let l = span-lies (a .s .now) (a .number) in rw (c .before .part-in .ensures, ← bytes-means (a .s .now) (a .number)) (sym (length-part (a .s .now) _ _ (l .0) (l .1)))
+returns c =
+    let at-part-in = c .before in
+    let a = at-part-in .before .before .args in
+    let l = span-lies (a .s .now) (a .number) in
+    rw (at-part-in .part-in .ensures, ← bytes-means (a .s .now) (a .number)) (sym (length-part (a .s .now) _ _ (l .0) (l .1)))
 
 pub length-in-spec : {M : Type 1} → statement M
 length-in-spec = tie.close (tie.spec (λ c κs. search needs) sub-result returns)

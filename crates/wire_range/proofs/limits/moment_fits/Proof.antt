@@ -10,7 +10,11 @@ use Rattle.wire_range.proofs.limits.moment_fits.Tie as tie
 
 returns : tie.Need-returns
 unfolding momentFits timeValue int64
-returns c = rw (up-to 4294967295 9223372036854775808 (c .before .before .before .args .t .seconds) (lit≤ tt), le-leb _ _ (c .before .if1 .taken)) (c .date-fits .ensures)
+returns c =
+    let at-if1 = c .before in
+    let at-start = at-if1 .before .before in
+    rw (up-to 4294967295 9223372036854775808 (at-start .args .t .seconds) (lit≤ tt), le-leb _ _ (at-if1 .if1 .taken))
+    (c .date-fits .ensures)
 
 returns-2 : tie.Need-returns-2
 unfolding momentFits timeValue int64

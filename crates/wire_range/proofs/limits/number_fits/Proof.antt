@@ -9,7 +9,11 @@ use Rattle.wire_range.proofs.limits.number_fits.Tie as tie
 
 returns : tie.Need-returns
 unfolding int32
-returns c = let a = c .before .before .args in rw (← number-means (a .s .now) (a .number), ← c .number-in .ensures) (sym (up-to (a .most) 2147483648 (c .number-in .result % 4294967296) (c .before .before .pre)))
+returns c =
+    let at-start = c .before .before in
+    let a = at-start .args in
+    rw (← number-means (a .s .now) (a .number), ← c .number-in .ensures)
+    (sym (up-to (a .most) 2147483648 (c .number-in .result % 4294967296) (at-start .pre)))
 
 pub number-fits-spec : {M : Type 1} → statement M
 number-fits-spec = tie.close (tie.spec (λ c κs. search needs) returns)

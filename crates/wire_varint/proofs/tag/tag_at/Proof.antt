@@ -1,3 +1,4 @@
+-- A tag of one byte is Varints.one-byte's; any other is tag_slow's contract.
 use mathlib.Core.Path.{sym}
 use Rattle.wire_varint.specs.Tag.{tagAt}
 use Rattle.wire_varint.proofs.Varints.{one-byte}
@@ -7,9 +8,13 @@ use Rattle.wire_varint.proofs.tag.tag_at.Tie as tie
 
 returns : tie.Need-returns
 unfolding tagAt
-returns c = let w = c .before .before in
-    let a = w .before .before .before .before .args in
-    rw (one-byte (a .s .now) (a .at) (w .wide .result) (w .before .before .if1 .taken) (sym (w .wide .ensures)) (c .before .if2 .taken)) (c .tag-of .ensures)
+returns c =
+    let at-if2 = c .before in
+    let at-wide = at-if2 .before in
+    let at-if1 = at-wide .before .before in
+    let a = at-if1 .before .before .args in
+    let one = one-byte (a .s .now) (a .at) (at-wide .wide .result) (at-if1 .if1 .taken) (sym (at-wide .wide .ensures)) (at-if2 .if2 .taken) in
+    rw one (c .tag-of .ensures)
 
 pub tag-at-spec : {M : Type 1} → statement M
 tag-at-spec =

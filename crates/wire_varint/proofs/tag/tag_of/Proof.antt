@@ -1,3 +1,4 @@
+-- Both cases are the test of `tagOf`, by what tag_fits ensures.
 use mathlib.Core.Path.{sym, _∙_}
 use Rattle.wire_varint.specs.Tag.{tagOf}
 use borrow.Author.Needs.{needs}

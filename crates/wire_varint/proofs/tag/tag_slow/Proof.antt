@@ -1,3 +1,4 @@
+-- Each case of what varint_at answers is one of `tagAt`; a value's tag is tag_of's contract.
 use mathlib.Core.Path.{sym, _∙_}
 use Rattle.wire_varint.specs.Tag.{tagAt, tagOf}
 use borrow.Author.Needs.{needs}
@@ -6,8 +7,9 @@ use Rattle.wire_varint.proofs.tag.tag_slow.Tie as tie
 
 returns : tie.Need-returns
 unfolding tagAt
-returns c = let v = c .before .before in
-    rw (sym (v .before .before .varint-at .ensures) ∙ v .value .given .1) (c .tag-of .ensures)
+returns c =
+    let at-value = c .before .before in
+    rw (sym (at-value .before .before .varint-at .ensures) ∙ at-value .value .given .1) (c .tag-of .ensures)
 
 returns-2 : tie.Need-returns-2
 unfolding tagAt tagOf

@@ -1,3 +1,4 @@
+-- Follow.last-in-lies puts the last field within the message; each case of what last_in answers is one of the definition `timeFrom`.
 use native.Mathlib.Omega.{arith}
 use mathlib.Core.Path.{sym, subst, _∙_}
 use Rattle.wire_walk_io.specs.Places.{timeFrom}
@@ -7,19 +8,18 @@ use borrow.Author.Needs.{needs}
 use Rattle.wire_walk_io.proofs.time.time_in.Statement.{statement}
 use Rattle.wire_walk_io.proofs.time.time_in.Tie as tie
 
-inside : (c : tie.After-known-told) → LastLies (c .before .before .before .before .before .args .s .now) (last.Part (c .before .start .given .0 .0) (c .before .start .given .0 .1 .0) (c .before .start .given .0 .1 .1 .0))
+-- where the last field lies that is a part
+inside : (c : tie.After-known-told) →
+    let read = c .before .start .given .0 in
+    LastLies (c .before .before .before .before .before .args .s .now) (last.Part (read .0) (read .1 .0) (read .1 .1 .0))
 inside c =
-    let a = c .before .before .before .before .before .args in
-    subst (LastLies (a .s .now)) (sym (c .before .before .before .last-in .ensures) ∙ c .before .start .given .1) (last-in-lies (a .s .now) (a .number) (a .number))
+    let at-last = c .before .before .before in
+    let a = at-last .before .before .args in
+    let is = sym (at-last .last-in .ensures) ∙ c .before .start .given .1 in
+    subst (LastLies (a .s .now)) is (last-in-lies (a .s .now) (a .number) (a .number))
 
 sub-t : tie.Need-sub-t
 sub-t c = inside c .0
-
-part-t-start : tie.Need-part-t-start
-part-t-start c = let h = inside c in omega arith
-
-part-t-end : tie.Need-part-t-end
-part-t-end c = let h = inside c in omega arith
 
 returns : tie.Need-returns
 unfolding timeFrom
@@ -31,10 +31,11 @@ returns-2 c = rw (sym (c .before .before .last-in .ensures) ∙ c .enum-told2 .g
 
 returns-3 : tie.Need-returns-3
 unfolding timeFrom
-returns-3 c = let n = c .before in
-    let k = n .before .before in
-    rw (sym (k .before .before .before .last-in .ensures) ∙ k .before .start .given .1)
-    (rw (← n .number-in .ensures, ← c .number-in2 .ensures))
+returns-3 c =
+    let at-seconds = c .before in
+    let at-told = at-seconds .before .before in
+    rw (sym (at-told .before .before .before .last-in .ensures) ∙ at-told .before .start .given .1)
+    (rw (← at-seconds .number-in .ensures, ← c .number-in2 .ensures))
 
 pub time-in-spec : {M : Type 1} → statement M
 time-in-spec =
@@ -45,8 +46,8 @@ time-in-spec =
     (λ c. search needs)
     (λ c. search needs)
     sub-t
-    part-t-start
-    part-t-end
+    (λ c. let h = inside c in omega arith)
+    (λ c. let h = inside c in omega arith)
     (λ c κs. search needs)
     (λ c κs. search needs)
     returns

@@ -1,11 +1,11 @@
+-- The loop keeps Times.Going: the check and the last numbers from `at` on are the whole's; each turn is one lemma of Times on its Tag-at.
 use borrow.Author.Needs.{needs}
 use native.Mathlib.Omega.{arith}
 use Prim.Native.Nat.{_-_}
-use mathlib.Core.Path.{refl, sym, _∙_}
+use mathlib.Core.Path.{sym, _∙_}
 use lib.ListN.{length}
-use Rattle.wire_varint.specs.Tag.{tagOf}
-use Rattle.wire_check_field.proofs.Walk.{no-tag, rest-stops}
-use Rattle.wire_walk_io.proofs.Times.{Going, start, finish, stop, second, nano, second-past, second-long, nano-past, nano-long, rest, no-inside}
+use Rattle.wire_walk_io.proofs.Times.{Going, start, finish, tag-past, tag-long, Tag-at, second, nano, second-past, second-long}
+use Rattle.wire_walk_io.proofs.Times.{nano-past, nano-long, rest, rest-refused, no-inside}
 use Rattle.wire_walk_io.proofs.time.time_spec.Statement.{statement}
 use Rattle.wire_walk_io.proofs.time.time_spec.Tie as tie
 
@@ -15,125 +15,115 @@ Inv-loop s at₀ seconds₀ nanos₀ at seconds nanos = Going s at seconds nanos
 abbrev μ-loop : tie.MeasureT-loop
 μ-loop s at₀ seconds₀ nanos₀ at seconds nanos = length s - at
 
+-- what a turn is at, once its tag is read
+tag : (c : tie.After-known-told Inv-loop μ-loop) →
+    let at-loop = c .before .before .before .before .before in
+    let read = c .before .tag .given .0 in
+    Tag-at (at-loop .before .before .args .s .now) (at-loop .loop .at) (at-loop .loop .seconds) (at-loop .loop .nanos) (read .0) (read .1 .0)
+tag c =
+    let at-varint = c .before .before .before in
+    let at-turn = at-varint .before in
+    record {
+      going = at-turn .before .loop .inv;
+      more = at-turn .loop-test .taken;
+      tagged = sym (at-varint .varint-at .ensures) ∙ c .before .tag .given .1;
+    }
+
 loop-holds : tie.Need-loop-holds Inv-loop μ-loop
 loop-holds c = start _
 
+-- the seconds
+
 loop-less : tie.Need-loop-less Inv-loop μ-loop
-loop-less c = let k = c .before .before .before .before .before in
-    let a = k .before .before .before in
-    let g = a .before .before .loop .inv in
-    let i = a .before .loop-test .taken in
-    let tagged = sym (a .varint-at .ensures) ∙ k .before .tag .given .1 in
-    let w = c .before .before .before in
-    let h = second g i _ _ tagged (w .before .if1 .taken) _ _ (sym (w .varint-at2 .ensures) ∙ c .before .value .given .1) .0 in omega arith
+loop-less c =
+    let at-value = c .before .before .before in
+    let at-if1 = at-value .before in
+    let next = second (tag (at-if1 .before)) (at-if1 .if1 .taken) (sym (at-value .varint-at2 .ensures) ∙ c .before .value .given .1) in
+    omega (arith, next .0, next .1 .within)
 
 loop-again : tie.Need-loop-again Inv-loop μ-loop
-loop-again c = let k = c .before .before .before .before .before in
-    let a = k .before .before .before in
-    let g = a .before .before .loop .inv in
-    let i = a .before .loop-test .taken in
-    let tagged = sym (a .varint-at .ensures) ∙ k .before .tag .given .1 in
-    let w = c .before .before .before in
-    second g i _ _ tagged (w .before .if1 .taken) _ _ (sym (w .varint-at2 .ensures) ∙ c .before .value .given .1) .1
+loop-again c =
+    let at-value = c .before .before .before in
+    let at-if1 = at-value .before in
+    second (tag (at-if1 .before)) (at-if1 .if1 .taken) (sym (at-value .varint-at2 .ensures) ∙ c .before .value .given .1) .1
 
 returns : tie.Need-returns Inv-loop μ-loop
-returns c = let k = c .before .before .before .before in
-    let a = k .before .before .before in
-    let g = a .before .before .loop .inv in
-    let i = a .before .loop-test .taken in
-    let tagged = sym (a .varint-at .ensures) ∙ k .before .tag .given .1 in
-    let w = c .before .before in
-    second-past g i _ _ tagged (w .before .if1 .taken) (sym (w .varint-at2 .ensures) ∙ c .enum-told .given .1)
+returns c =
+    let at-value = c .before .before in
+    let at-if1 = at-value .before in
+    second-past (tag (at-if1 .before)) (at-if1 .if1 .taken) (sym (at-value .varint-at2 .ensures) ∙ c .enum-told .given .1)
 
 returns-2 : tie.Need-returns-2 Inv-loop μ-loop
-returns-2 c = let k = c .before .before .before .before in
-    let a = k .before .before .before in
-    let g = a .before .before .loop .inv in
-    let i = a .before .loop-test .taken in
-    let tagged = sym (a .varint-at .ensures) ∙ k .before .tag .given .1 in
-    let w = c .before .before in
-    second-long g i _ _ tagged (w .before .if1 .taken) (sym (w .varint-at2 .ensures) ∙ c .enum-told2 .given .1)
+returns-2 c =
+    let at-value = c .before .before in
+    let at-if1 = at-value .before in
+    second-long (tag (at-if1 .before)) (at-if1 .if1 .taken) (sym (at-value .varint-at2 .ensures) ∙ c .enum-told2 .given .1)
+
+-- the nanoseconds
 
 loop-less-2 : tie.Need-loop-less-2 Inv-loop μ-loop
-loop-less-2 c = let k = c .before .before .before .before .before .before in
-    let a = k .before .before .before in
-    let g = a .before .before .loop .inv in
-    let i = a .before .loop-test .taken in
-    let tagged = sym (a .varint-at .ensures) ∙ k .before .tag .given .1 in
-    let w = c .before .before .before in
-    let h = nano g i _ _ tagged (w .before .if2 .taken) _ _ (sym (w .varint-at3 .ensures) ∙ c .before .value2 .given .1) .0 in omega arith
+loop-less-2 c =
+    let at-value = c .before .before .before in
+    let at-if2 = at-value .before in
+    let next = nano (tag (at-if2 .before .before)) (at-if2 .if2 .taken) (sym (at-value .varint-at3 .ensures) ∙ c .before .value2 .given .1) in
+    omega (arith, next .0, next .1 .within)
 
 loop-again-2 : tie.Need-loop-again-2 Inv-loop μ-loop
-loop-again-2 c = let k = c .before .before .before .before .before .before in
-    let a = k .before .before .before in
-    let g = a .before .before .loop .inv in
-    let i = a .before .loop-test .taken in
-    let tagged = sym (a .varint-at .ensures) ∙ k .before .tag .given .1 in
-    let w = c .before .before .before in
-    nano g i _ _ tagged (w .before .if2 .taken) _ _ (sym (w .varint-at3 .ensures) ∙ c .before .value2 .given .1) .1
+loop-again-2 c =
+    let at-value = c .before .before .before in
+    let at-if2 = at-value .before in
+    nano (tag (at-if2 .before .before)) (at-if2 .if2 .taken) (sym (at-value .varint-at3 .ensures) ∙ c .before .value2 .given .1) .1
 
 returns-3 : tie.Need-returns-3 Inv-loop μ-loop
-returns-3 c = let k = c .before .before .before .before .before in
-    let a = k .before .before .before in
-    let g = a .before .before .loop .inv in
-    let i = a .before .loop-test .taken in
-    let tagged = sym (a .varint-at .ensures) ∙ k .before .tag .given .1 in
-    let w = c .before .before in
-    nano-past g i _ _ tagged (w .before .if2 .taken) (sym (w .varint-at3 .ensures) ∙ c .enum-told3 .given .1)
+returns-3 c =
+    let at-value = c .before .before in
+    let at-if2 = at-value .before in
+    nano-past (tag (at-if2 .before .before)) (at-if2 .if2 .taken) (sym (at-value .varint-at3 .ensures) ∙ c .enum-told3 .given .1)
 
 returns-4 : tie.Need-returns-4 Inv-loop μ-loop
-returns-4 c = let k = c .before .before .before .before .before in
-    let a = k .before .before .before in
-    let g = a .before .before .loop .inv in
-    let i = a .before .loop-test .taken in
-    let tagged = sym (a .varint-at .ensures) ∙ k .before .tag .given .1 in
-    let w = c .before .before in
-    nano-long g i _ _ tagged (w .before .if2 .taken) (sym (w .varint-at3 .ensures) ∙ c .enum-told4 .given .1)
+returns-4 c =
+    let at-value = c .before .before in
+    let at-if2 = at-value .before in
+    nano-long (tag (at-if2 .before .before)) (at-if2 .if2 .taken) (sym (at-value .varint-at3 .ensures) ∙ c .enum-told4 .given .1)
+
+-- another field
 
 loop-less-3 : tie.Need-loop-less-3 Inv-loop μ-loop
-loop-less-3 c = let k = c .before .before .before .before .before .before in
-    let a = k .before .before .before in
-    let g = a .before .before .loop .inv in
-    let i = a .before .loop-test .taken in
-    let tagged = sym (a .varint-at .ensures) ∙ k .before .tag .given .1 in
-    let w = c .before .before .before in
-    let h = rest g i _ _ tagged (w .before .before .if1 .left) (w .before .if2 .left) _ (sym (w .rest-at .ensures) ∙ c .before .after .given .1) .0 in omega arith
+loop-less-3 c =
+    let at-rest = c .before .before .before in
+    let at-if2 = at-rest .before in
+    let at-if1 = at-if2 .before in
+    let next = rest (tag (at-if1 .before)) (at-if1 .if1 .left) (at-if2 .if2 .left) (sym (at-rest .rest-at .ensures) ∙ c .before .after .given .1) in
+    omega (arith, next .0, next .1 .within)
 
 loop-again-3 : tie.Need-loop-again-3 Inv-loop μ-loop
-loop-again-3 c = let k = c .before .before .before .before .before .before in
-    let a = k .before .before .before in
-    let g = a .before .before .loop .inv in
-    let i = a .before .loop-test .taken in
-    let tagged = sym (a .varint-at .ensures) ∙ k .before .tag .given .1 in
-    let w = c .before .before .before in
-    rest g i _ _ tagged (w .before .before .if1 .left) (w .before .if2 .left) _ (sym (w .rest-at .ensures) ∙ c .before .after .given .1) .1
+loop-again-3 c =
+    let at-rest = c .before .before .before in
+    let at-if2 = at-rest .before in
+    let at-if1 = at-if2 .before in
+    rest (tag (at-if1 .before)) (at-if1 .if1 .left) (at-if2 .if2 .left) (sym (at-rest .rest-at .ensures) ∙ c .before .after .given .1) .1
 
-loop-less-4 : tie.Need-loop-less-4 Inv-loop μ-loop
-loop-less-4 c = let w = c .before .before .before in
-    absurd (no-inside _ _ _ _ _ _ _ (sym (w .rest-at .ensures) ∙ c .before .end .given .1))
-
-loop-again-4 : tie.Need-loop-again-4 Inv-loop μ-loop
-loop-again-4 c = let w = c .before .before .before in
-    absurd (no-inside _ _ _ _ _ _ _ (sym (w .rest-at .ensures) ∙ c .before .end .given .1))
+never-inside : tie.After-known-told5 Inv-loop μ-loop → ⊥
+never-inside c = no-inside _ _ _ _ _ _ _ (sym (c .before .before .before .rest-at .ensures) ∙ c .before .end .given .1)
 
 returns-5 : tie.Need-returns-5 Inv-loop μ-loop
-returns-5 c = let k = c .before .before .before .before .before .before in
-    let a = k .before .before .before in
-    let g = a .before .before .loop .inv in
-    let i = a .before .loop-test .taken in
-    let tagged = sym (a .varint-at .ensures) ∙ k .before .tag .given .1 in
-    let w = c .before .before .before in
-    stop g i _ _ (rest-stops 10 _ _ _ _ (omega arith) tagged _ _ (sym (w .rest-at .ensures) ∙ c .before .refusal .given .1))
+returns-5 c =
+    let at-rest = c .before .before .before in
+    rest-refused (tag (at-rest .before .before .before)) (sym (at-rest .rest-at .ensures) ∙ c .before .refusal .given .1)
+
+-- no tag, and the end
 
 returns-6 : tie.Need-returns-6 Inv-loop μ-loop
-unfolding tagOf
-returns-6 c = let a = c .before .before in
-    stop (a .before .before .loop .inv) (a .before .loop-test .taken) _ _ (no-tag 10 _ _ (omega arith) _ (sym (a .varint-at .ensures) ∙ c .enum-told5 .given .1) refl)
+returns-6 c =
+    let at-varint = c .before .before in
+    let at-turn = at-varint .before in
+    tag-past (at-turn .before .loop .inv) (at-turn .loop-test .taken) (sym (at-varint .varint-at .ensures) ∙ c .enum-told5 .given .1)
 
 returns-7 : tie.Need-returns-7 Inv-loop μ-loop
-unfolding tagOf
-returns-7 c = let a = c .before .before in
-    stop (a .before .before .loop .inv) (a .before .loop-test .taken) _ _ (no-tag 10 _ _ (omega arith) _ (sym (a .varint-at .ensures) ∙ c .enum-told6 .given .1) refl)
+returns-7 c =
+    let at-varint = c .before .before in
+    let at-turn = at-varint .before in
+    tag-long (at-turn .before .loop .inv) (at-turn .loop-test .taken) (sym (at-varint .varint-at .ensures) ∙ c .enum-told6 .given .1)
 
 returns-8 : tie.Need-returns-8 Inv-loop μ-loop
 returns-8 c = finish (c .before .loop .inv) (c .loop-test .left)
@@ -168,8 +158,8 @@ time-spec-spec =
     loop-less-3
     loop-again-3
     (λ c. search needs)
-    loop-less-4
-    loop-again-4
+    (λ c. absurd (never-inside c))
+    (λ c. absurd (never-inside c))
     (λ c. search needs)
     returns-5
     (λ c. search needs)

@@ -1,3 +1,4 @@
+-- The code is the definition, `dateFits`: refl.
 use Rattle.write_message.specs.Fits.{dateFits}
 use mathlib.Core.Path.{refl}
 use Rattle.write_message.proofs.fits.date_fits.Statement.{statement}

@@ -1,3 +1,4 @@
+-- The two tests are those of `momentFits`, by what `both` and date_fits ensure: cc joins them.
 use Rattle.write_message.specs.Fits.{momentFits}
 use borrow.Author.Needs.{needs}
 use Rattle.write_message.proofs.fits.moment_fits.Statement.{statement}

@@ -1,3 +1,4 @@
+-- The two tests are those of the definition `sized`, by what `both` ensures: cc joins them.
 use Rattle.write_message.specs.Fits.{sized}
 use borrow.Author.Needs.{needs}
 use Rattle.write_message.proofs.fits.sized.Statement.{statement}

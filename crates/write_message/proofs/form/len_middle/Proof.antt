@@ -1,3 +1,4 @@
+-- The lengths of the list, the numbers and the bytes, each like its own, are added up by Lengths.like-append.
 use Rattle.write_pieces.proofs.Lengths.{like-append}
 use borrow.Author.Needs.{needs}
 use Rattle.write_message.proofs.form.len_middle.Statement.{statement}
@@ -7,7 +8,10 @@ len-list-requires : tie.Need-len-list-requires
 len-list-requires c κs = c .before .before .before .before .pre
 
 returns : tie.Need-returns
-returns c = (like-append (c .before .before .len-list .ensures .0) (like-append (c .before .len-numbers .ensures .0) (c .len-raw .ensures .0)), search needs)
+returns c =
+    let at-len-numbers = c .before in
+    let at-len-list = at-len-numbers .before in
+    (like-append (at-len-list .len-list .ensures .0) (like-append (at-len-numbers .len-numbers .ensures .0) (c .len-raw .ensures .0)), search needs)
 
 pub len-middle-spec : {M : Type 1} → statement M
 len-middle-spec =

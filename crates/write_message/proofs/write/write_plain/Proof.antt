@@ -1,3 +1,4 @@
+-- A message without a list: no ends, no elements and no packed numbers, so that the contract of write_message is this one's.
 use Rattle.write_forms.specs.Draft.{cutAt, badEnds}
 use Rattle.write_forms.specs.Pieces.{elements, encode, packed}
 use mathlib.Core.Path.{refl}

@@ -8,7 +8,11 @@ returns : tie.Need-returns
 returns c = let a = c .before .before .args in rw (number-out (a .f) (a .v) (a .always) (c .before .left-out .ensures) (c .if1 .taken)) (search needs)
 
 returns-2 : tie.Need-returns-2
-returns-2 c = let a = c .before .before .before .before .args in omega (arith, length-number (a .f) (a .v) (a .always) (c .before .before .before .left-out .ensures) (c .before .before .if1 .left))
+returns-2 c =
+    let at-if1 = c .before .before in
+    let at-left-out = at-if1 .before in
+    let a = at-left-out .before .args in
+    omega (arith, length-number (a .f) (a .v) (a .always) (at-left-out .left-out .ensures) (at-if1 .if1 .left))
 
 pub len-number-spec : {M : Type 1} → statement M
 len-number-spec =

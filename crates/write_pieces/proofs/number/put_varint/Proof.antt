@@ -13,17 +13,11 @@ abbrev μ-loop : tie.MeasureT-loop
 loop-holds : tie.Need-loop-holds Inv-loop μ-loop
 loop-holds c = put-start (c .args .out .now) (c .args .at) (c .args .v) (search needs)
 
-slice-write-out : tie.Need-slice-write-out Inv-loop μ-loop
-slice-write-out c = put-room (c .before .loop .inv) (c .before .before .pre)
-
 loop-less : tie.Need-loop-less Inv-loop μ-loop
 loop-less c = omega arith
 
 loop-again : tie.Need-loop-again Inv-loop μ-loop
 loop-again c = put-more (c .before .loop .inv) (c .before .before .pre) (c .loop-test .taken)
-
-slice-write-out-2 : tie.Need-slice-write-out-2 Inv-loop μ-loop
-slice-write-out-2 c = put-room (c .before .loop .inv) (c .before .before .pre)
 
 returns : tie.Need-returns Inv-loop μ-loop
 returns c = put-end (c .before .loop .inv) (c .before .before .pre) (c .loop-test .left)
@@ -37,12 +31,12 @@ put-varint-spec =
     loop-holds
     (λ c. search needs)
     (λ c. search needs)
-    slice-write-out
+    (λ c. put-room (c .before .loop .inv) (c .before .before .pre))
     (λ c. search needs)
     loop-less
     loop-again
     (λ c. search needs)
-    slice-write-out-2
+    (λ c. put-room (c .before .loop .inv) (c .before .before .pre))
     (λ c. search needs)
     (λ c. search needs)
     returns)

@@ -11,10 +11,15 @@ returns : tie.Need-returns
 returns c = (beyond (omega arith) (omega (arith, text-least (c .before .before .args .f) (c .before .before .args .d .now))), omega arith)
 
 returns-2 : tie.Need-returns-2
-returns-2 c = (exact (ap length (sym (text-none (c .before .before .before .args .f) (c .before .before .before .args .d .now) (c .if2 .taken)))), omega arith)
+returns-2 c =
+    let at-start = c .before .before .before in
+    (exact (ap length (sym (text-none (at-start .args .f) (at-start .args .d .now) (c .if2 .taken)))), omega arith)
 
 returns-3 : tie.Need-returns-3
-returns-3 c = (exact (omega (arith, length-text (c .before .before .before .before .args .f) (c .before .before .before .before .args .d .now) (c .before .if2 .left))), omega arith)
+returns-3 c =
+    let at-if2 = c .before in
+    let at-start = at-if2 .before .before .before in
+    (exact (omega (arith, length-text (at-start .args .f) (at-start .args .d .now) (at-if2 .if2 .left))), omega arith)
 
 pub len-text-spec : {M : Type 1} → statement M
 len-text-spec = tie.close (tie.spec returns returns-2 (λ c κs. search needs) (λ c. search needs) returns-3)

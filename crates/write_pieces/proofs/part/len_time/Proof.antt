@@ -9,7 +9,11 @@ returns : tie.Need-returns
 returns c = let a = c .before .args in rw (time-none (a .f) (stamp (a .seconds) (a .nanos)) (c .if1 .taken)) (search needs)
 
 returns-2 : tie.Need-returns-2
-returns-2 c = let a = c .before .before .before .args in omega (arith, length-time (a .f) (stamp (a .seconds) (a .nanos)) _ (c .before .before .if1 .left) (c .before .len-stamp .ensures .0))
+returns-2 c =
+    let at-len-stamp = c .before in
+    let at-if1 = at-len-stamp .before in
+    let a = at-if1 .before .args in
+    omega (arith, length-time (a .f) (stamp (a .seconds) (a .nanos)) _ (at-if1 .if1 .left) (at-len-stamp .len-stamp .ensures .0))
 
 pub len-time-spec : {M : Type 1} → statement M
 len-time-spec =

@@ -5,19 +5,8 @@ use Rattle.base_copy.proofs.Puts.{nothing}
 use Rattle.write_pieces.proofs.part.put_front.Statement.{statement}
 use Rattle.write_pieces.proofs.part.put_front.Tie as tie
 
-put-raw-requires : tie.Need-put-raw-requires
-unfolding front
-put-raw-requires c κs = omega (arith, simp (c .before .before .if1 .taken) at (c .before .before .before .before .pre))
-
-returns : tie.Need-returns
-unfolding front
-returns c = rw (c .before .before .before .before .before .if1 .taken) (search needs)
-
-returns-2 : tie.Need-returns-2
-unfolding front
-returns-2 c = rw (c .if1 .left) (nothing (c .before .before .args .out .now) 0 (omega arith))
-
 pub put-front-spec : {M : Type 1} → statement M
+unfolding front
 put-front-spec =
     tie.close
     (tie.spec
@@ -26,7 +15,7 @@ put-front-spec =
     (λ c. search needs)
     (λ c. search needs)
     (λ c. search needs)
-    put-raw-requires
+    (λ c κs. omega (arith, simp (c .before .before .if1 .taken) at (c .before .before .before .before .pre)))
     (λ c. search needs)
-    returns
-    returns-2)
+    (λ c. rw (c .before .before .before .before .before .if1 .taken) (search needs))
+    (λ c. rw (c .if1 .left) (nothing (c .before .before .args .out .now) 0 (omega arith))))

@@ -10,7 +10,9 @@ put-varint-requires : tie.Need-put-varint-requires
 put-varint-requires c κs = omega (arith, length-head (c .before .before .args .f) (c .before .before .args .n))
 
 put-varint-requires-2 : tie.Need-put-varint-requires-2
-put-varint-requires-2 c κs = omega (arith, length-head (c .before .before .before .before .before .before .args .f) (c .before .before .before .before .before .before .args .n))
+put-varint-requires-2 c κs =
+    let at-start = c .before .before .before .before .before .before in
+    omega (arith, length-head (at-start .args .f) (at-start .args .n))
 
 returns : tie.Need-returns
 unfolding head

@@ -9,13 +9,22 @@ returns : tie.Need-returns
 returns c = let a = c .before .before .before .args in rw (text-none (a .f) (a .d .now) (c .if1 .taken)) (nothing (a .out .now) (a .at) (omega arith))
 
 put-head-requires : tie.Need-put-head-requires
-put-head-requires c κs = omega (arith, length-text (c .before .before .before .before .args .f) (c .before .before .before .before .args .d .now) (c .before .if1 .left))
+put-head-requires c κs =
+    let at-if1 = c .before in
+    let at-start = at-if1 .before .before .before in
+    omega (arith, length-text (at-start .args .f) (at-start .args .d .now) (at-if1 .if1 .left))
 
 put-raw-requires : tie.Need-put-raw-requires
-put-raw-requires c κs = omega (arith, length-text (c .before .before .before .before .before .before .before .before .args .f) (c .before .before .before .before .before .before .before .before .args .d .now) (c .before .before .before .before .before .if1 .left))
+put-raw-requires c κs =
+    let at-if1 = c .before .before .before .before .before in
+    let at-start = at-if1 .before .before .before in
+    omega (arith, length-text (at-start .args .f) (at-start .args .d .now) (at-if1 .if1 .left))
 
 returns-2 : tie.Need-returns-2
-returns-2 c = rw (text-some (c .before .before .before .before .before .before .before .before .before .before .before .args .f) (c .before .before .before .before .before .before .before .before .before .before .before .args .d .now) (c .before .before .before .before .before .before .before .before .if1 .left)) (search puts)
+returns-2 c =
+    let at-if1 = c .before .before .before .before .before .before .before .before in
+    let at-start = at-if1 .before .before .before in
+    rw (text-some (at-start .args .f) (at-start .args .d .now) (at-if1 .if1 .left)) (search puts)
 
 pub put-text-spec : {M : Type 1} → statement M
 put-text-spec =
