@@ -10,6 +10,9 @@ ghost use Rattle.base_copy.specs.Block.{blockStored};
 ghost use Rattle.base_copy.specs.Copy.{fits, copied};
 ghost use Rattle.base_copy.specs.Put.{Put};
 
+// How many bytes are copied by way of an array.
+const PAGE: usize = 16384;
+
 // Bytes one after the other.
 fn copy_few(area: &mut [u8], at: usize, bytes: &[u8])
     requires { ⌜ at + length (now bytes) ≤ length (now area) ⌝ }
@@ -53,7 +56,7 @@ fn copy_page(area: &mut [u8], at: usize, bytes: &[u8])
     requires { ⌜ (at + length (now bytes) ≤ length (now area)) × (length (now bytes) ≡ 16384) ⌝ }
     ensures { λ _. ⌜ now (area .exit) ≡ splice (now (area .entry)) at (now (bytes .entry)) ⌝ }
 {
-    let mut page: [u8; 16384] = [0; 16384];
+    let mut page: [u8; PAGE] = [0; PAGE];
     copy_few(&mut page, 0, bytes);
     copy_few(area, at, &page);
 }
@@ -66,9 +69,9 @@ fn copy_pages(area: &mut [u8], at: usize, bytes: &[u8]) -> usize
 {
     let n = bytes.len();
     let mut j: usize = 0;
-    while 16384 <= n - j {
-        copy_page(area, at + j, &bytes[j..j + 16384]);
-        j += 16384;
+    while PAGE <= n - j {
+        copy_page(area, at + j, &bytes[j..j + PAGE]);
+        j += PAGE;
     }
     j
 }
@@ -110,7 +113,7 @@ fn copy_all(area: &mut [u8], at: usize, bytes: &[u8])
         copy_32(area, at + (n - 32), bytes, n - 32);
         return;
     }
-    if n < 16384 {
+    if n < PAGE {
         copy_many(area, at, bytes);
         return;
     }

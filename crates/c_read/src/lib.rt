@@ -11,6 +11,9 @@ use wire_fields::last_in;
 use wire_frame::count_of;
 use wire_frame::cut_frame;
 use wire_frame::state_of;
+use wire_schema::CLIENT_MESSAGE;
+use wire_schema::INFO_MESSAGE;
+use wire_schema::SERVER_MESSAGE;
 use wire_types::ClientRead;
 ghost use mathlib.Core.Path.{_≡_};
 ghost use lib.ListN.{length};
@@ -67,13 +70,13 @@ fn member_among(s: &[u8], lo: u64, hi: u64) -> u64
 pub extern "C" fn sudolog_member(message: u8, s: &[u8]) -> u64
     ensures { λ r. ⌜ r ≡ memberOf message (now (s .entry)) ⌝ }
 {
-    if message == 0 {
+    if message == CLIENT_MESSAGE {
         return member_among(s, 1, 13);
     }
-    if message == 14 {
+    if message == SERVER_MESSAGE {
         return member_among(s, 1, 5);
     }
-    if message == 11 {
+    if message == INFO_MESSAGE {
         return member_among(s, 2, 5);
     }
     0

@@ -14,6 +14,9 @@ ghost use Rattle.file_format.specs.File.{limit};
 ghost use Rattle.session_bytes.specs.Saved as s;
 ghost use Rattle.session_bytes.specs.Saved.{stateNumber, markNumber, markPoint, sessionOf, stateOf, markOf, areSession, fromNumbers, kept};
 
+// The length of the longest area.
+const AREA_LIMIT: u64 = 1073741824;
+
 // ---- from a session to its numbers
 
 pub fn state_number(state: State) -> u64
@@ -116,7 +119,7 @@ fn is_state(n: u64, t: u64) -> bool
 fn are_within(used: u64, total: u64, low: u64, t: u64) -> bool
     ensures { λ r. ⌜ r ≡ both (leb used 1073741824) (both (leb total limit) (both (leb low limit) (leb t limit))) ⌝ }
 {
-    if 1073741824 < used {
+    if AREA_LIMIT < used {
         return false;
     }
     if LIMIT < total {

@@ -7,6 +7,7 @@ use wire_check::entry::plain_entry;
 use wire_fields::Found;
 use wire_fields::part_found;
 use wire_message::time_spec_in;
+use wire_range::limits::NANOS_LIMIT;
 use wire_value::Payload;
 use wire_value::number_at;
 ghost use mathlib.Core.Path.{_≡_};
@@ -154,7 +155,7 @@ fn entry_seen(keys: Keys, s: &[u8]) -> Seen
 fn date_seen(s: &[u8]) -> bool
     ensures { λ r. ⌜ r ≡ dateFits (m.timeSpec (items (now (s .entry)))) ⌝ }
 {
-    time_spec_in(s).nanos % 4294967296 <= 999999999
+    time_spec_in(s).nanos % 4294967296 <= NANOS_LIMIT
 }
 
 // What one pass over an accept in the form that clients send tells; nothing is told of another form.

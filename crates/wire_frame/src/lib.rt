@@ -3,6 +3,9 @@ ghost use mathlib.Core.Path.{_≡_};
 ghost use Prim.Native.Nat.{_+_, _*_};
 ghost use Rattle.wire_frame.specs.Frame.{cutOf, refusalOf, stateOf, countOf};
 
+// The length of the longest message in a frame.
+const FRAME_LIMIT: usize = 2097152;
+
 // What stands at the start of a stream.
 pub enum Cut {
     // too few bytes yet: how many are missing to the next decision
@@ -29,7 +32,7 @@ pub fn cut_frame(s: &[u8]) -> Cut
         return Cut::Wait { missing: 4 - held };
     }
     let length = number_of(s[0], s[1], s[2], s[3]);
-    if 2097152 < length {
+    if FRAME_LIMIT < length {
         return Cut::Refused;
     }
     if held < 4 + length {

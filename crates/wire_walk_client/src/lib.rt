@@ -1,6 +1,7 @@
 // One walk that checks a ClientMessage and collects its member at once.
 use wire_check::check;
 use wire_check_field::Checked;
+use wire_schema::CLIENT_MESSAGE;
 use wire_schema::kind_of;
 use wire_schema::takes;
 use wire_types::ClientRead;
@@ -25,7 +26,7 @@ pub fn client_walk(s: &[u8]) -> ClientRead
                 return ClientRead::Refused { refusal, place: at };
             }
             Tag::Field { number, wire, next } => {
-                let kind = kind_of(0, number);
+                let kind = kind_of(CLIENT_MESSAGE, number);
                 if takes(kind, wire) {
                     match payload_at(s, at, next, wire) {
                         Payload::Part { start, end } => {

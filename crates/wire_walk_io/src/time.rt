@@ -4,6 +4,7 @@ use wire_check_field::rest_at;
 use wire_fields::Last;
 use wire_fields::last_in;
 use wire_fields::number_in;
+use wire_schema::TIME_SPEC;
 use wire_types::Time;
 use wire_varint::Varint;
 use wire_varint::varint_at;
@@ -95,7 +96,7 @@ pub fn time_spec(s: &[u8]) -> TimeRead
                         }
                     }
                 } else {
-                    match rest_at(10, s, at, tag, next) {
+                    match rest_at(TIME_SPEC, s, at, tag, next) {
                         Step::Next { next: after } => {
                             at = after;
                         }

@@ -23,6 +23,8 @@ ghost use Rattle.write_pieces.specs.Parts.{stamp};
 ghost use Rattle.write_message.specs.Fits.{clientHelloFits, acceptFits, reportMember, reportFits, restartFits};
 ghost use Rattle.write_message.specs.Wrote.{wrote};
 
+const LOG_ID_LIMIT: usize = 4095;
+
 // A ClientHello, member 13.
 pub fn write_client_hello(member: u64, client_id: &[u8], framed: bool, out: &mut [u8]) -> Wrote
     ensures answer { λ r. ⌜ r ≡ wrote 0 (clientHelloFits member) framed (wrapped member (clientHelloPieces (now («client_id» .entry)))) (length (now (out .entry))) ⌝ }
@@ -131,7 +133,7 @@ pub fn write_restart(
 {
     let fits = both(
         member_in(4, 4, member),
-        both(sized(1, 4095, log_id), moment_fits(seconds, nanos)),
+        both(sized(1, LOG_ID_LIMIT, log_id), moment_fits(seconds, nanos)),
     );
     let p = timed(2, seconds, nanos, 0, 0);
     write_plain(0, fits, member, p, log_id, &[], &[], &[], &[], framed, out)

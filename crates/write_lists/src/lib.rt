@@ -2,6 +2,8 @@
 use base_copy::put_raw;
 use write_pieces::number::len_varint;
 use write_pieces::number::put_varint;
+use write_pieces::part::MESSAGE_LIMIT;
+use write_pieces::part::TOO_LONG;
 use write_pieces::part::len_head;
 use write_pieces::part::put_head;
 ghost use mathlib.Core.Path.{_≡_};
@@ -39,12 +41,12 @@ pub fn len_list(f: u8, joined: &[u8], ends: &[usize]) -> usize
     let mut i: usize = 0;
     while i < ends.len() {
         let e = ends[i];
-        if 2_097_152 < e - a {
-            return 2_097_153;
+        if MESSAGE_LIMIT < e - a {
+            return TOO_LONG;
         }
         n += len_head(f, e - a) + (e - a);
-        if 2_097_152 < n {
-            return 2_097_153;
+        if MESSAGE_LIMIT < n {
+            return TOO_LONG;
         }
         a = e;
         i += 1;
@@ -79,8 +81,8 @@ fn len_packed(numbers: &[u64]) -> usize
     let mut i: usize = 0;
     while i < numbers.len() {
         n += len_varint(numbers[i]);
-        if 2_097_152 < n {
-            return 2_097_153;
+        if MESSAGE_LIMIT < n {
+            return TOO_LONG;
         }
         i += 1;
     }

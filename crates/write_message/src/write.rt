@@ -5,6 +5,7 @@ use crate::form::len_form;
 use crate::form::len_middle;
 use crate::form::put_form;
 use crate::outcome::Wrote;
+use write_pieces::part::MESSAGE_LIMIT;
 use write_pieces::part::len_cover;
 use write_pieces::part::len_front;
 use write_pieces::part::put_cover;
@@ -22,7 +23,7 @@ ghost use Rattle.write_message.specs.Wrote.{Outcome};
 fn room_refusal(framed: bool, n: usize, room: usize) -> u8
     ensures { λ r. ⌜ r ≡ roomRefusal framed n room ⌝ }
 {
-    if 2_097_152 < n {
+    if MESSAGE_LIMIT < n {
         return 1;
     }
     if room < len_front(framed) + n {

@@ -12,6 +12,11 @@ ghost use Rattle.write_forms.specs.Draft.{time};
 ghost use Rattle.base_copy.specs.Put.{Put};
 ghost use Rattle.write_pieces.specs.Parts.{Like, timePiece, cover, stamp};
 
+// The length of the longest message, and the length that stands for every greater one.
+pub const MESSAGE_LIMIT: usize = 2_097_152;
+
+pub const TOO_LONG: usize = 2_097_153;
+
 // The tag and the length before n bytes of a field.
 pub fn len_head(f: u8, n: usize) -> usize
     ensures { λ r. ⌜ (r ≡ length (head f n)) × (r ≤ 20) ⌝ }
@@ -50,8 +55,8 @@ pub fn put_cover(out: &mut [u8], at: usize, f: u8, n: usize) -> usize
 pub fn len_raw(d: &[u8]) -> usize
     ensures { λ r. ⌜ (Like r (now (d .entry))) × (r ≤ 2097153) ⌝ }
 {
-    if 2_097_152 < d.len() {
-        return 2_097_153;
+    if MESSAGE_LIMIT < d.len() {
+        return TOO_LONG;
     }
     d.len()
 }
@@ -59,8 +64,8 @@ pub fn len_raw(d: &[u8]) -> usize
 pub fn len_text(f: u8, d: &[u8]) -> usize
     ensures { λ r. ⌜ (Like r (encode (text f (now (d .entry))))) × (r ≤ 2097173) ⌝ }
 {
-    if 2_097_152 < d.len() {
-        return 2_097_153;
+    if MESSAGE_LIMIT < d.len() {
+        return TOO_LONG;
     }
     if d.len() == 0 {
         return 0;
