@@ -1,4 +1,4 @@
--- What the functions for C answer: the paper's numbers for each case, and numbers as bytes.
+-- What the functions for C return: the paper's numbers for each case, and numbers as bytes.
 use Prim.Native.Nat.{ℕ, _-_}
 use mathlib.Core.List.{List, [], _∷_}
 use lib.Dec.{leb, eqb}

@@ -1,4 +1,4 @@
-// What C calls to read: functions on numbers and byte slices alone. include/sudolog.h declares them and says what each one answers.
+// What C calls to read: functions on numbers and byte slices alone. include/sudolog.h declares them and says what each one returns.
 // A `&[u8]` comes as a pointer and a length; a `&mut [u8]` is the buffer that the caller lends for more than one number.
 
 use base_numbers::lay_five;

@@ -1,4 +1,4 @@
--- What the session's functions for C answer.
+-- What the session's functions for C return.
 use Prim.Native.Nat.{ℕ}
 use mathlib.Core.List.{List, [], _∷_}
 use lib.ListN.{length}

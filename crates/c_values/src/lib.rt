@@ -1,5 +1,5 @@
 // What C calls to get at values: the fields of a message and the elements of a list, one by one. include/sudolog.h declares these functions and
-// says what each one answers. They take numbers and byte slices alone, as those of `reading` do.
+// says what each one returns. They take numbers and byte slices alone, as those of `c_read` do.
 
 use base_numbers::lay_three;
 use wire_elements::Next;

@@ -1,4 +1,4 @@
--- What the writers for C answer.
+-- What the writers for C return.
 use Prim.Native.Nat.{ℕ, _+_, _*_, _%_}
 use Rattle.write_message.specs.declared.outcome.Wrote.{Wrote}
 

@@ -1,4 +1,4 @@
-// The writers for C. Each answers one number: how many bytes it wrote in the low 32 bits, its refusal above them.
+// The writers for C. Each returns one number: how many bytes it wrote in the low 32 bits, its refusal above them.
 use write_message::outcome::Wrote;
 ghost use mathlib.Core.Path.{_≡_};
 ghost use mathlib.Core.Bool.{true};

@@ -53,7 +53,7 @@ abbrev pub story : List Event
 story = first ++ (second ++ third)
 
 pub record Story : Type 0 where
-  -- what the theorem asks for is met
+  -- what the theorem requires is met
   pub given : Given blank recording
   pub listed : Listed blank recording story
   -- four timed records before the break, and the point before the last of them

@@ -1,4 +1,4 @@
-// The names in a line: those of a ClientMessage's members and of a session's states. As in `words`, `put_..` requires the room and answers
+// The names in a line: those of a ClientMessage's members and of a session's states. As in `numbers`, `put_..` requires the room and returns
 // the place after what it put.
 use base_copy::put_raw;
 use session_turn::State;

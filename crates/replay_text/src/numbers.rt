@@ -1,5 +1,5 @@
 // The numbers in a line, in decimal. These functions are for the lines above, which
-// have seen to the room before they put anything: `put_..` requires it, and answers the place after what it put.
+// show that there is room before they put anything: `put_..` requires it, and returns the place after what it put.
 use base_copy::put_raw;
 ghost use mathlib.Core.Path.{_≡_};
 ghost use Prim.Native.Nat.{_+_, _≤_, _<_};

@@ -21,7 +21,7 @@ byCut n window cut.Refused = Refused
 unfoldable pub nextOf : List ℕ → ℕ → Next
 nextOf s window = byCut (length s) window (cutOf s)
 
--- a frame lies within n bytes, its message behind its first four
+-- a frame is within n bytes, its message behind its first four
 unfoldable pub Within : ℕ → Next → Type 0
 Within n Wait = Unit
 Within n (Frame size) = (4 ≤ size) × (size ≤ n)

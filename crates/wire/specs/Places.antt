@@ -11,7 +11,7 @@ use Rattle.wire.specs.Read.{Reading, value, refused}
 use Rattle.wire.specs.declared.ServerRead.{ServerRead}
 use Rattle.wire.specs.declared.ServerRead.the-variants as server
 
--- an I/O buffer by its delay and where its data lies; any other member by its bytes
+-- an I/O buffer by its delay and where its data is; any other member by its bytes
 unfoldable pub clientValue : List ℕ → ClientRead → Reading Client
 clientValue s client.NoMember = refused 6
 clientValue s (client.Io f x y a e) =

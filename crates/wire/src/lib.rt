@@ -1,5 +1,5 @@
 // Reading a message: the refusals in document 01's order, and the members of ClientMessage and ServerMessage. This crate, with
-// `message` for the members' values and `range` for their ranges, is what a session builds on.
+// `wire_message` for the members' values and `wire_range` for their ranges, is what a session builds on.
 use wire_check::check;
 use wire_check_field::Checked;
 use wire_fast_client::client;

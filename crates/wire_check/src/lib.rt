@@ -9,7 +9,7 @@ use wire_schema::INFO_MESSAGE;
 ghost use mathlib.Core.Path.{_≡_};
 ghost use Rattle.wire_check_field.specs.Check.{checkOf};
 
-// The check of a message: the leftmost refusal of 2 to 5, depth first. Most bytes of an accept are in its entries, which have a short way.
+// The check of a message: the leftmost refusal of 2 to 5, depth first. Most bytes of an accept are in its entries, which have a fast path.
 pub fn check(message: u8, s: &[u8]) -> Checked
     ensures { λ r. ⌜ r ≡ checkOf message (now (s .entry)) ⌝ }
 {

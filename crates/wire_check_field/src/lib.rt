@@ -1,4 +1,4 @@
-// The check of one field of any message, by the one schema, and what the check of a whole message answers (`message_check`).
+// The check of one field of any message, by the one schema, and what the check of a whole message returns (`wire_check`).
 use wire_schema::kind_of;
 use wire_schema::takes;
 use wire_value::Payload;

@@ -1,4 +1,4 @@
--- The short ways: each says what the walk over the same fields says.
+-- The fast paths: each says what the walk over the same fields says.
 use Prim.Native.Nat.{ℕ, _+_, _/_, _%_, _≤_, _<_}
 use native.Mathlib.Omega.{arith}
 use mathlib.Core.Path.{_≡_, refl, sym, subst, _∙_}

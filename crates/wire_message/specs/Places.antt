@@ -23,7 +23,7 @@ use Rattle.wire_message.specs.declared.Value.the-variants as held
 abbrev pub bytesAt : List ℕ → Span → Bytes
 bytesAt s p = part s (p .start) (p .end)
 
--- the place lies in the message's bytes
+-- the place is in the message's bytes
 abbrev pub Within : List ℕ → Span → Type 0
 Within s p = (p .start ≤ p .end) × (p .end ≤ length s)
 

@@ -147,7 +147,7 @@ pub fn server_hello_in(s: &[u8]) -> ServerHello
     }
 }
 
-// The value of an entry: a number, or where its bytes lie. The strings of a list are its fields 1, its numbers come by
+// The value of an entry: a number, or where its bytes are. The strings of a list are its fields 1, its numbers come by
 // `wire_elements::next_number`.
 pub enum Value {
     Absent,

@@ -1,6 +1,6 @@
 // The types in which the wire part answers: what a caller needs to name without resting on the walk that found it.
 
-// Where a field's bytes lie in a message.
+// Where a field's bytes are in a message.
 pub struct Span {
     pub start: usize,
     pub end: usize,

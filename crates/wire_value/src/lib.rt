@@ -52,7 +52,7 @@ pub fn number_at(s: &[u8], at: usize) -> Payload
     }
 }
 
-// A length and its bytes, where the length takes two bytes or more or is refused: apart from `part_at`, so that its short way can be
+// A length and its bytes, where the length takes two bytes or more or is refused: apart from `part_at`, so that its fast path can be
 // inlined.
 fn part_slow(s: &[u8], at: usize) -> Payload
     ensures { λ r. ⌜ r ≡ partOf (now (s .entry)) at (varintAt (now (s .entry)) at) ⌝ }
@@ -83,7 +83,7 @@ fn part_slow(s: &[u8], at: usize) -> Payload
     }
 }
 
-// A length and its bytes. Nearly all lengths are one byte, which has a short way.
+// A length and its bytes. Nearly all lengths are one byte, which has a fast path.
 pub fn part_at(s: &[u8], at: usize) -> Payload
     ensures { λ r. ⌜ r ≡ partOf (now (s .entry)) at (varintAt (now (s .entry)) at) ⌝ }
 {

@@ -39,7 +39,7 @@ use Rattle.wire_fields.proofs.Follow.{none, span-lies}
 use Rattle.wire_schema.proofs.Rows.{kinds}
 use Rattle.wire_check_field.proofs.Walk.{On, leads-on, ends-at, outside, inside-on, inside-stops, lies, no-number, field-leads, field-inside, field-part, field-stops}
 
--- what an I/O buffer's walk says of its check and where its data lies
+-- what an I/O buffer's walk says of its check and where its data is
 io-fine : (c : Checked) (t : Time) (l : Last) (x y b d : ℕ) → ioRead c t l ≡ ioread.Fine x y b d → (c ≡ checked.Fine) × (startFrom l ≡ b) × (endFrom l ≡ d)
 unfolding ioRead
 io-fine checked.Fine t l x y b d e = (refl, cc, cc)

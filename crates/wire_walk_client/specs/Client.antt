@@ -1,4 +1,4 @@
--- Where a client message's member stands in its bytes, as the walk answers; of an I/O buffer its values.
+-- Where a client message's member stands in its bytes, as the walk returns it; of an I/O buffer its values.
 use Prim.Native.Nat.{ℕ, _+_}
 use mathlib.Core.List.{List}
 use mathlib.Core.Bool.{Bool, true, false}

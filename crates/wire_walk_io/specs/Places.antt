@@ -1,4 +1,4 @@
--- Where a message's values stand in its bytes, as the readers answer: numbers as they were read, and places of bytes.
+-- Where a message's values stand in its bytes, as the readers return them: numbers as they were read, and places of bytes.
 -- `Message` says what these values mean.
 use Prim.Native.Nat.{ℕ}
 use mathlib.Core.List.{List}
@@ -35,7 +35,7 @@ timeRead (checked.Refused r p) t = timeread.Refused r p
 abbrev pub timeSpecOf : List ℕ → TimeRead
 timeSpecOf s = timeRead (checkOf TimeSpec s) (timeOf s)
 
--- an I/O buffer that is fine, by its delay and where its data lies
+-- an I/O buffer that is fine, by its delay and where its data is
 unfoldable pub ioRead : Checked → Time → Last → IoRead
 ioRead checked.Fine t l = ioread.Fine (t .seconds) (t .nanos) (startFrom l) (endFrom l)
 ioRead (checked.Refused r p) t l = ioread.Refused r p

@@ -11,7 +11,7 @@ use wire_varint::varint_at;
 ghost use mathlib.Core.Path.{_≡_};
 ghost use Rattle.wire_walk_io.specs.Places.{ioBufferOf};
 
-// An I/O buffer: its delay and where its data lies, or its refusal with the place.
+// An I/O buffer: its delay and where its data is, or its refusal with the place.
 pub enum IoRead {
     Fine {
         seconds: u64,

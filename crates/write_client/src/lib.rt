@@ -1,6 +1,6 @@
-// The writers of a ClientMessage's members that open a session or an event: hello, accept, reject, alert and restart; `record_writer` has
-// the others. A writer, here and in `record_writer`, `server_writer`, `entry_writer` and `list_writer`, takes its message's fields,
-// `framed` (with the four bytes of a frame before it) and the buffer, from whose start it writes; it answers document 01's
+// The writers of a ClientMessage's members that open a session or an event: hello, accept, reject, alert and restart; `write_io` has
+// the others. A writer, here and in `write_io`, `write_server`, `write_entry` and `write_list`, takes its message's fields,
+// `framed` (with the four bytes of a frame before it) and the buffer, from whose start it writes; it returns document 01's
 // refusal, 0 for none, and how many bytes it wrote. On a refusal nothing is written. `member` is the field number of the message
 // around it, in which it is written, or 0 to write it by itself; any other number is refused with 7.
 use write_message::fits::both;

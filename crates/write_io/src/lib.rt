@@ -1,5 +1,5 @@
 // The writers of the messages that a session stores after its accept: I/O buffers, window sizes, suspends and exits. How a writer is
-// called and what it answers stands in `client_writer`, which has those of the other members of a ClientMessage.
+// called and what it returns stands in `write_client`, which has those of the other members of a ClientMessage.
 use write_message::fits::both;
 use write_message::fits::flag;
 use write_message::fits::member_in;

@@ -1,4 +1,4 @@
--- What a writer answers, in the struct of the code.
+-- What a writer returns, in the struct of the code.
 use Prim.Native.Nat.{ℕ}
 use mathlib.Core.Path.{_≡_}
 use mathlib.Core.List.{List}

@@ -1,4 +1,4 @@
-// The writers of a ServerMessage's members, as in `client_writer`.
+// The writers of a ServerMessage's members, as in `write_client`.
 use write_lists::ends_fit;
 use write_message::fits::both;
 use write_message::fits::flag;
