@@ -12,7 +12,7 @@ ghost use Rattle.base_numbers.specs.Eight.{eight, eights, laid, numberAt
 // A number with its eight bytes in the opposite order. The compiler has one instruction for it; so numbers go to and from a buffer
 // least significant byte first, as the machine moves them at once, and are turned here.
 fn turned(v: u64) -> u64
-    ensures { λ r. ⌜ r ≡ Rattle.base_numbers.specs.Eight.turned v ⌝ }
+    ensures { λ r. ⌜ r ≡ Rattle.base_numbers.specs.Eight.byteSwapped v ⌝ }
 {
     let a = v % 256 * 256 + v / 256 % 256;
     let b = v / 65536 % 256 * 256 + v / 16777216 % 256;

@@ -17,7 +17,7 @@ use wire_schema::SERVER_MESSAGE;
 use wire_types::ClientRead;
 ghost use mathlib.Core.Path.{_≡_};
 ghost use lib.ListN.{length};
-ghost use Rattle.wire_frame.specs.Frame.{cutOf, stateOf, countOf};
+ghost use Rattle.wire_frame.specs.Frame.{cutOf, frameState, countOf};
 ghost use Rattle.wire_fields.specs.Fields.{lastIn, memberFrom};
 ghost use Rattle.wire_walk_client.specs.Client.{clientOf};
 ghost use Rattle.wire.specs.Read.{decodeNumber, readNumber};
@@ -25,7 +25,7 @@ ghost use Rattle.c_read.specs.Answers.{memberOf, clientAnswer, clientBuf
 
 #[no_mangle]
 pub extern "C" fn sudolog_frame_state(s: &[u8]) -> u8
-    ensures { λ r. ⌜ r ≡ stateOf (cutOf (now (s .entry))) ⌝ }
+    ensures { λ r. ⌜ r ≡ frameState (cutOf (now (s .entry))) ⌝ }
 {
     state_of(cut_frame(s))
 }

@@ -14,9 +14,9 @@ unfoldable pub offsetOf : Found → ℕ
 offsetOf (found.Part a e) = a
 offsetOf found.Nothing = 18446744073709551615
 
-unfoldable pub lengthOf : Found → ℕ
-lengthOf (found.Part a e) = e - a
-lengthOf found.Nothing = 0
+unfoldable pub foundLength : Found → ℕ
+foundLength (found.Part a e) = e - a
+foundLength found.Nothing = 0
 
 -- ---- sudolog_next_number
 

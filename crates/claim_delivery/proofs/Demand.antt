@@ -54,7 +54,7 @@ same-file R Q v w e =
 
 module _ (d : Delivery) where
   shows : (a : ℕ) → file (end d) a ≡ fileBytes (take (end d .book a) (records (d .recording)))
-  shows a = reached d .areas a .lies .shows
+  shows a = reached d .areas a .holds .shows
 
   whole-file : (a : ℕ) → end d .book a ≡ length (records (d .recording)) → file (end d) a ≡ fileBytes (records (d .recording))
   whole-file a e = shows a ∙ ap (λ (k : ℕ). fileBytes (take k (records (d .recording)))) e ∙ ap fileBytes (take-length (records (d .recording)))

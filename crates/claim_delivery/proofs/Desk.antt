@@ -33,7 +33,7 @@ use Rattle.claim_delivery.specs.Host.{countedMember, counted, booked, Wh
 use Rattle.claim_delivery.specs.World.{isPoint, stoppedAfter}
 use Rattle.claim_delivery.proofs.Totals.{kept, later, kept-later, atMost-is, kept-beginning, kept-exact, HeadLater, later-head}
 use Rattle.claim_delivery.proofs.Files.{Storable, total-of-append, begun, first, size, Count, nothing, some-of, whole, count, beginning-short, begun-unfinished, read-begun, whole-finished, read-whole, carries-is}
-use Rattle.claim_delivery.proofs.Areas.{Lies, Next, next-below, next-room, lies-next, size-next, next-accept, next-timed, next-exit, meets-begun, lies-kept}
+use Rattle.claim_delivery.proofs.Areas.{Holds, Next, next-below, next-room, holds-next, size-next, next-accept, next-timed, next-exit, meets-begun, holds-kept}
 use Rattle.claim_delivery.proofs.Steps.{within-area, lengths-fit, room-for, step-hello, step-accept, step-timed, step-exit, step-restart, resumes, step-finished, step-closed}
 
 -- ---- commit points
@@ -128,7 +128,7 @@ RestartOk r = r .taken ≡ not (r .carried)
 
 -- c is the area's length
 pub record Inv (R : Recording) (c : ℕ) (p : Option ℕ) (ms : List Sent) (d : Desk) : Type 0 where
-  pub lies : Lies (d .area) (d .used) (take (d .n) (records R))
+  pub holds : Holds (d .area) (d .used) (take (d .n) (records R))
   pub sized : length (d .area) ≡ c
   pub within : d .n ≤ length (records R)
   pub restarts-ok : All RestartOk (d .restarts)
@@ -229,10 +229,10 @@ module _ (R : Recording) (storable : Storable R) (c : ℕ) (fits : length (fileB
     carried = carries (fileKind (take (d .used) (d .area)))
 
     carried-is : carried ≡ eqb (d .n) (length (records R))
-    carried-is = rw (i .lies .shows) (carries-is R storable (d .n) (i .within))
+    carried-is = rw (i .holds .shows) (carries-is R storable (d .n) (i .within))
 
     used-fits : d .used ≤ length (d .area)
-    used-fits = omega (arith, i .lies .used-is, beginning-short R (d .n), i .sized)
+    used-fits = omega (arith, i .holds .used-is, beginning-short R (d .n), i .sized)
 
     within : withinArea (length (d .area)) (d .used) ≡ true
     within = within-area (d .session) (d .area) (d .used) s (omega (arith, i .sized)) used-fits
@@ -241,7 +241,7 @@ module _ (R : Recording) (storable : Storable R) (c : ℕ) (fits : length (fileB
     lengths want e = lengths-fit (d .session) (d .area) (d .used) s want within e
 
     room : (r : Record) → Next R (d .n) r → length (r .contents) ≤ 2097152 → roomFor (d .session) (d .area) (d .used) r ≡ true
-    room r x h = room-for (d .session) (d .area) (d .used) s r h (omega (arith, i .lies .used-is, next-room R (d .n) r x, i .sized))
+    room r x h = room-for (d .session) (d .area) (d .used) s r h (omega (arith, i .holds .used-is, next-room R (d .n) r x, i .sized))
 
     -- a record that was stored
     stored-to : (m : Client) (r : Record) (se : Session) (pt : Point) → clientMessage s ≡ value m → Next R (d .n) r → countedMember R m (d .n) ≡ suc (d .n)
@@ -257,8 +257,8 @@ module _ (R : Recording) (storable : Storable R) (c : ℕ) (fits : length (fileB
         let o : Outcome = carrying pt se (stored (d .session) (d .area) (d .used) r) in
         rw (hand-is s m d o (suc (d .n)) read gives (book-counts m (d .n) below ∙ counts))
         (record {
-          lies = rw ends (lies-next R (d .n) r (d .area) (d .used) (i .within) x (omega (arith, i .sized)) (i .lies));
-          sized = size-next R (d .n) r (d .area) (d .used) x (omega (arith, i .sized)) (i .lies) ∙ i .sized;
+          holds = rw ends (holds-next R (d .n) r (d .area) (d .used) (i .within) x (omega (arith, i .sized)) (i .holds));
+          sized = size-next R (d .n) r (d .area) (d .used) x (omega (arith, i .sized)) (i .holds) ∙ i .sized;
           within = omega arith;
           restarts-ok = all-append RestartOk (d .restarts) _ (i .restarts-ok) (rw (quiet (record { taken = true; carried = carried })) tt);
           out-ok = all-append (AnswerOk R (suc (d .n))) (d .out) (toMessage 0 pt ∷ [])
@@ -273,7 +273,7 @@ module _ (R : Recording) (storable : Storable R) (c : ℕ) (fits : length (fileB
     accept-to y o e z =
         let a : Record = acceptRecord (R .accept) in
         let x : Next R (d .n) a = rw z (next-accept R) in
-        let u : d .used ≡ 0 = i .lies .used-is ∙ ap (λ (k : ℕ). length (fileBytes (take k (records R)))) z in
+        let u : d .used ≡ 0 = i .holds .used-is ∙ ap (λ (k : ℕ). length (fileBytes (take k (records R)))) z in
         stored-to (acceptMsg (acceptOf R)) a (fromAccept (d .used + length (recordBytes a))) point.Absent (y .0 .read) x refl (λ w. refl) refl
         (step-accept (d .session) (d .area) (d .used) s R (storable .valid) (y .0) (y .1) o (lengths 0 u) (room a x (storable .accept-small)))
         (unpointed R (suc (d .n)) 0 (λ b. absurd (never b)))
@@ -344,7 +344,7 @@ module _ (R : Recording) (storable : Storable R) (c : ℕ) (fits : length (fileB
         rw (hand-is s (helloMsg (y .0)) d (taken (d .session) (d .area) (d .used) Greeted) (d .n) (y .1 .read)
         (step-hello (d .session) (d .area) (d .used) s (y .0) (y .1) h) (same (d .n) (eqb (d .n) (length (records R)))))
         (record {
-          lies = i .lies;
+          holds = i .holds;
           sized = i .sized;
           within = i .within;
           restarts-ok = all-append RestartOk (d .restarts) [] (i .restarts-ok) tt;
@@ -374,7 +374,7 @@ module _ (R : Recording) (storable : Storable R) (c : ℕ) (fits : length (fileB
     refused-to m k r z gives e =
         rw (hand-is s m d (refuse (d .session) (d .area) (d .used) k 0) (d .n) (r .read) gives (book-stays m (d .n) e))
         (record {
-          lies = i .lies;
+          holds = i .holds;
           sized = i .sized;
           within = i .within;
           restarts-ok = all-append RestartOk (d .restarts) (notedMember m (record { taken = eqb k 0; carried = carried })) (i .restarts-ok)
@@ -403,7 +403,7 @@ module _ (R : Recording) (storable : Storable R) (c : ℕ) (fits : length (fileB
     restart-finished : (v : Restart) → Reads s (restartMsg v) → restartFits v ≡ true → mayOpen (d .session .state) ≡ true → d .n ≡ length (records R) → To
     restart-finished v r h o k =
         refused-to (restartMsg v) 13 r refl
-        (step-finished (d .session) (d .area) (d .used) s v r h o within (records R) (ap recordsOf (i .lies .shows) ∙ read-whole R storable (d .n) k) (whole-finished R storable))
+        (step-finished (d .session) (d .area) (d .used) s v r h o within (records R) (ap recordsOf (i .holds .shows) ∙ read-whole R storable (d .n) k) (whole-finished R storable))
         k
 
     -- a restart that is taken
@@ -417,17 +417,17 @@ module _ (R : Recording) (storable : Storable R) (c : ℕ) (fits : length (fileB
         let len : length xs + length ys ≡ length (R .timed) = sym (length-append xs ys) ∙ ap length e in
         let below : d .n < length (records R) = omega (arith, size R) in
         let same : kept 0 T xs ≡ K = rw (← e) (kept-beginning 0 T xs ys (rw e (omega (arith, g .held)))) in
-        let file : Lies (d .area) (d .used) (begun R xs) = rw (ap (λ (z : ℕ). take z (records R)) k ∙ first R xs ys e) at (i .lies) in
+        let file : Holds (d .area) (d .used) (begun R xs) = rw (ap (λ (z : ℕ). take z (records R)) k ∙ first R xs ys e) at (i .holds) in
         let is-first : take (suc (length K)) (records R) ≡ begun R K = first R K (later 0 T (R .timed)) (kept-later 0 T (R .timed)) in
         let good : Good R (suc (length K)) T = record { reached = g .reached; held = omega arith; below = g .below } in
         let se : Session = resumes (d .session) (d .area) (d .used) s T (begun R xs) in
         rw (hand-is s (restartMsg v) d (carrying point.Absent se (d .area)) (suc (length K)) (r .read)
         (step-restart (d .session) (d .area) (d .used) s v r h o within (begun R xs)
-        (ap recordsOf (i .lies .shows) ∙ ap (λ (z : ℕ). recordsOf (fileBytes (take z (records R)))) k ∙ read-begun R storable xs ys e) (begun-unfinished R storable xs ys e)
+        (ap recordsOf (i .holds .shows) ∙ ap (λ (z : ℕ). recordsOf (fileBytes (take z (records R)))) k ∙ read-begun R storable xs ys e) (begun-unfinished R storable xs ys e)
         (meets-begun R T xs (ap totalOf same ∙ g .reached)))
         (book-counts (restartMsg v) (d .n) below ∙ ap suc (atMost-is 0 T (R .timed))))
         (record {
-          lies = lies-kept R T xs K (d .area) (d .used) same is-first file;
+          holds = holds-kept R T xs K (d .area) (d .used) same is-first file;
           sized = i .sized;
           within = omega (arith, g .held);
           restarts-ok = all-append RestartOk (d .restarts) (record { taken = true; carried = carried } ∷ []) (i .restarts-ok)

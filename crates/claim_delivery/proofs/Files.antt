@@ -11,7 +11,7 @@ use borrow.Author.Tests.{leb-true, leb-false, eq-eqb, ne-eqb}
 use Rattle.base_laws.specs.Base.{All}
 use Rattle.base_laws.proofs.Lists.{all-left}
 use Rattle.file_format.specs.Record.{Record}
-use Rattle.file_format.specs.File.{Records, all, recordsOf, fileBytes, limit, total, unfinished, finished, restKind, recordsKind, kindOf, fileKind}
+use Rattle.file_format.specs.File.{Records, all, recordsOf, fileBytes, limit, total, unfinished, finished, restKind, recordsKind, kindOfRecords, fileKind}
 use Rattle.file_format.proofs.Times.{rest-cons, accept-cons}
 use Rattle.file_format.proofs.Reading.{InRange, Ranged, no-records, one-more, records-of-file}
 use Rattle.file_format.proofs.Appends.{file-append, ranged-append, kind-exit, total-append}
@@ -54,8 +54,8 @@ rest-unfinished sum (t ∷ ts) v h =
 
 -- a file of no records carries no exit
 pub carries-none : carries (fileKind []) ≡ false
-unfolding carries fileKind kindOf fileBytes recordsKind
-carries-none = ap (λ (r : Records). carries (kindOf r)) (records-of-file [] no-records)
+unfolding carries fileKind kindOfRecords fileBytes recordsKind
+carries-none = ap (λ (r : Records). carries (kindOfRecords r)) (records-of-file [] no-records)
 
 -- ---- the first n records
 
@@ -144,13 +144,13 @@ module _ (R : Recording) where
 
     -- does a file of n records carry an exit
     pub carries-is : (n : ℕ) → n ≤ length (records R) → carries (fileKind (fileBytes (take n (records R)))) ≡ eqb n (length (records R))
-    unfolding carries fileKind kindOf fileBytes recordsKind
+    unfolding carries fileKind kindOfRecords fileBytes recordsKind
     carries-is n h = go (count n h)
       where
         go : Count n → carries (fileKind (fileBytes (take n (records R)))) ≡ eqb n (length (records R))
-        go (nothing e) = rw e (ap (λ (r : Records). carries (kindOf r)) (records-of-file [] no-records) ∙ sym (ne-eqb 0 (length (records R)) (λ z. omega (arith, size))))
+        go (nothing e) = rw e (ap (λ (r : Records). carries (kindOfRecords r)) (records-of-file [] no-records) ∙ sym (ne-eqb 0 (length (records R)) (λ z. omega (arith, size))))
         go (some-of xs ys e k) =
             let l : length xs + length ys ≡ length (R .timed) = sym (length-append xs ys) ∙ ap length e in
-            rw k (ap (λ (r : Records). carries (kindOf r)) (read-begun xs ys e) ∙ ap carries (begun-unfinished xs ys e))
+            rw k (ap (λ (r : Records). carries (kindOfRecords r)) (read-begun xs ys e) ∙ ap carries (begun-unfinished xs ys e))
             ∙ sym (ne-eqb n (length (records R)) (λ z. omega (arith, size)))
-        go (whole e) = ap (λ (r : Records). carries (kindOf r)) (read-whole n e) ∙ ap carries whole-finished ∙ sym (eq-eqb n (length (records R)) e)
+        go (whole e) = ap (λ (r : Records). carries (kindOfRecords r)) (read-whole n e) ∙ ap carries whole-finished ∙ sym (eq-eqb n (length (records R)) e)

@@ -305,7 +305,7 @@ module _ (R : Recording) where
   done : (blank : ℕ → Bytes) (w : World) → WorldOk R blank w → Whole R (w .book) → Done R w
   done blank w ok x = record {
     area = x .place;
-    whole = ok .areas (x .place) .lies .shows ∙ ap (λ (k : ℕ). fileBytes (take k (records R))) (x .is-whole) ∙ ap fileBytes (take-length (records R));
+    whole = ok .areas (x .place) .holds .shows ∙ ap (λ (k : ℕ). fileBytes (take k (records R))) (x .is-whole) ∙ ap fileBytes (take-length (records R));
   }
 
   tells : (n : ℕ) (a : Answer) → AnswerOk R n a → TellsEnd R a

@@ -33,7 +33,7 @@ use Rattle.claim_delivery.specs.World.{Connection, sending, World, fresh
 use Rattle.claim_delivery.proofs.Totals.{greater-is}
 use Rattle.claim_delivery.proofs.Cutting.{Fits, Left, drained}
 use Rattle.claim_delivery.proofs.Files.{Storable}
-use Rattle.claim_delivery.proofs.Areas.{Lies}
+use Rattle.claim_delivery.proofs.Areas.{Holds}
 use Rattle.claim_delivery.proofs.Desk.{Good, PointOk, AnswerOk, Quiet, MarkOk, Lead, Stage, beginning, resuming, logging, over, RestartOk, Inv, reads-some, all-handed}
 
 -- the sender's latest point, seen from its area
@@ -46,7 +46,7 @@ LatestOk R book none = Unit {0}
 LatestOk R book (some p) = Good R (book (p .area)) (p .at)
 
 pub record AreaOk (R : Recording) (area : Bytes) (used n : ℕ) : Type 0 where
-  pub lies : Lies area used (take n (records R))
+  pub holds : Holds area used (take n (records R))
   pub within : n ≤ length (records R)
 
 -- some area holds the whole recording
@@ -85,7 +85,7 @@ module _ (R : Recording) (blank : ℕ → Bytes) where
   unfolding fresh fileBytes
   fresh-ok = record {
     sizes = λ a. refl;
-    areas = λ a. record { lies = record { shows = refl; used-is = refl }; within = omega arith };
+    areas = λ a. record { holds = record { shows = refl; used-is = refl }; within = omega arith };
     restarts-ok = tt;
     latest-ok = tt;
     stopped-ok = λ e. absurd (never e);
@@ -136,7 +136,7 @@ module _ (R : Recording) (blank : ℕ → Bytes) where
       go (resuming T l q o) = rw (no-tick d (lead-quiet (d .session .state) point ms _ l)) i
       go (over h z) = rw (no-tick d (ap (λ (x : State). pointIn x point) h)) i
       go (logging l) = record {
-        lies = i .lies;
+        holds = i .holds;
         sized = i .sized;
         within = i .within;
         restarts-ok = i .restarts-ok;
@@ -195,7 +195,7 @@ module _ (R : Recording) (blank : ℕ → Bytes) where
       size-of a false h = ok .sizes a
 
       area-of : (a : ℕ) (b : Bool) → AreaOk R (pick b (d .area) (w .area a)) (pick b (d .used) (w .used a)) (pick b (d .n) (w .book a))
-      area-of a true = record { lies = i .lies; within = i .within }
+      area-of a true = record { holds = i .holds; within = i .within }
       area-of a false = ok .areas a
 
       latest-at : (p : Option ℕ) → PointOk R (d .n) p → LatestOk R (put (c .area) (d .n) (w .book)) (placed (c .area) p)
@@ -224,7 +224,7 @@ module _ (R : Recording) (blank : ℕ → Bytes) where
   came : (c : ℕ) (p q : Option ℕ) (ms : List Sent) (d : Desk) (a : Answer) (out : List Answer) → d .out ≡ a ∷ out → Inv R c p ms d → PointOk R (d .n) q → (Quiet a → q ≡ p)
       → Inv R c q ms (withOut d out)
   came c p q ms d a out e i g same = record {
-    lies = i .lies;
+    holds = i .holds;
     sized = i .sized;
     within = i .within;
     restarts-ok = i .restarts-ok;
@@ -300,7 +300,7 @@ module _ (R : Recording) (blank : ℕ → Bytes) where
   unfolding fileBytes records
   fresh-zero area used zero h e = refl
   fresh-zero area used (suc n) h e =
-      absurd (omega (arith, h .lies .used-is, length-append (recordBytes (acceptRecord (R .accept))) (fileBytes (take n (map storedFor (R .timed) ++ (exitRecord (R .exit) ∷ [])))), length-record (acceptRecord (R .accept))))
+      absurd (omega (arith, h .holds .used-is, length-append (recordBytes (acceptRecord (R .accept))) (fileBytes (take n (map storedFor (R .timed) ++ (exitRecord (R .exit) ∷ [])))), length-record (acceptRecord (R .accept))))
 
   opened-ok : (w : World) (l : Option Place) (h : Bool) (bs : List Bytes) (a : ℕ) → WorldOk w → w .part ≡ [] → w .latest ≡ l
       → Lines bs (withHello h (messages R l)) → Fresh w l a → WorldOk (opened w bs a)
@@ -320,7 +320,7 @@ module _ (R : Recording) (blank : ℕ → Bytes) where
       fit = lines-fit bs (withHello h (messages R (some p))) lined;
       read-as = lined;
       inv = record {
-        lies = ok .areas (p .area) .lies;
+        holds = ok .areas (p .area) .holds;
         sized = ok .sizes (p .area);
         within = ok .areas (p .area) .within;
         restarts-ok = ok .restarts-ok;
@@ -345,7 +345,7 @@ module _ (R : Recording) (blank : ℕ → Bytes) where
       fit = lines-fit bs (withHello h (messages R none)) lined;
       read-as = lined;
       inv = record {
-        lies = ok .areas a .lies;
+        holds = ok .areas a .holds;
         sized = ok .sizes a;
         within = ok .areas a .within;
         restarts-ok = ok .restarts-ok;

@@ -2,7 +2,7 @@
 -- line names, so that a proof by computing need not list them.
 use Rattle.wire_varint.specs.Varint.{varintFrom}
 use Rattle.wire_schema.specs.Schema.{schema, kindOf, takes}
-use Rattle.wire_value.specs.Field.{fixedAt, numberOf, partOf, payloadAt}
+use Rattle.wire_value.specs.Field.{fixedAt, numberPayload, partOf, payloadAt}
 use Rattle.wire_varint.specs.Tag.{tagFits, tagOf, tagAt}
 use Rattle.wire_check_field.specs.Check.{stepOf, stepFrom, stepAt}
 use Rattle.wire_check_field.specs.Check.{before, onStep, checkFrom, checkAt}
@@ -18,7 +18,7 @@ use Rattle.wire_range.specs.Range.{ioFits}
 use Rattle.session_entries.specs.Required as q
 use Rattle.wire.specs.Read.{after, member, clientMessage}
 use Rattle.file_format.specs.Digits.{digits, valueFrom}
-use Rattle.file_format.specs.Record.{packed, headerBytes, recordBytes, exitBytes, isTimed, timedFits, exitDataFits}
+use Rattle.file_format.specs.Record.{packedHeader, headerBytes, recordBytes, exitBytes, isTimed, timedFits, exitDataFits}
 use Rattle.file_format.specs.File as f
 use Rattle.base_laws.specs.Base.{splice}
 use Rattle.session_turn.specs.Turn as t
@@ -28,7 +28,7 @@ use Rattle.session.specs.Step as s
 
 -- varints, tags and what stands behind a tag
 unfoldable pub tagging : Unit {0}
-unfolding varintFrom tagFits tagOf tagAt fixedAt numberOf partOf payloadAt
+unfolding varintFrom tagFits tagOf tagAt fixedAt numberPayload partOf payloadAt
 tagging = tt
 
 -- the check of a message
@@ -57,24 +57,24 @@ unfolding upTo sized dateFits momentFits isSet entryFits entriesFit ioFits g.acc
 ranging = tt
 
 unfoldable pub requiring : Unit {0}
-unfolding q.sameBytes q.keyBytes q.lastFrom q.stringOrNone q.typesFrom q.has q.missingFrom q.entriesRefusal
+unfolding q.sameBytes q.keyBytes q.lastValueFrom q.stringOrNone q.typesFrom q.has q.missingFrom q.entriesRefusal
 requiring = tt
 
 -- ---- files
 
 -- a record
 unfoldable pub storing : Unit {0}
-unfolding digits valueFrom packed headerBytes recordBytes exitBytes isTimed timedFits exitDataFits
+unfolding digits valueFrom packedHeader headerBytes recordBytes exitBytes isTimed timedFits exitDataFits
 storing = tt
 
 -- the records of a file
 unfoldable pub finding : Unit {0}
-unfolding f.fileBytes f.unpacked f.recordAt f.before f.onFound f.recordsFrom f.recordsOf
+unfolding f.fileBytes f.unpacked f.recordAt f.withFirst f.onFound f.recordsFrom f.recordsOf
 finding = tt
 
 -- what a file is, its totals, and what a restart keeps
 unfoldable pub filing : Unit {0}
-unfolding storing finding f.timeOf f.total f.lowFrom f.mayFollow f.mayEnd f.restKind f.recordsKind f.kindOf f.fileKind f.meets f.keep
+unfolding storing finding f.timeOf f.total f.lowFrom f.mayFollow f.mayEnd f.restKind f.recordsKind f.kindOfRecords f.fileKind f.meets f.keep
 filing = tt
 
 -- ---- a session

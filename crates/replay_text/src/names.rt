@@ -8,11 +8,11 @@ ghost use mathlib.Core.Path.{_≡_};
 ghost use Prim.Native.Nat.{_+_, _≤_};
 ghost use lib.ListN.{length};
 ghost use Rattle.base_copy.specs.Put.{Put};
-ghost use Rattle.replay_text.specs.Names.{memberName, memberOf, stateName};
+ghost use Rattle.replay_text.specs.Names.{memberName, shownMember, stateName};
 
 // The number of the member that counts, 0 for none.
 pub fn member_of(s: &[u8]) -> u64
-    ensures { λ r. ⌜ r ≡ memberOf (now (s .entry)) ⌝ }
+    ensures { λ r. ⌜ r ≡ shownMember (now (s .entry)) ⌝ }
 {
     match last_in(s, 1, 13) {
         Last::Nothing => 0,

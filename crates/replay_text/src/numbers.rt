@@ -5,12 +5,12 @@ ghost use mathlib.Core.Path.{_≡_};
 ghost use Prim.Native.Nat.{_+_, _≤_, _<_};
 ghost use lib.ListN.{length};
 ghost use Rattle.base_copy.specs.Put.{Put};
-ghost use Rattle.replay_text.specs.Words.{digits, decimal, nine};
+ghost use Rattle.replay_text.specs.Words.{decimalDigits, decimal, nine};
 
 // The last digit stands after all the others, so the others are put first.
 fn put_digits(out: &mut [u8], at: usize, n: u64, k: usize) -> usize
     requires { ⌜ at + k ≤ length (now out) ⌝ }
-    ensures { λ r. ⌜ (Put (now (out .entry)) at (digits k n) (now (out .exit)) r) × (r ≤ at + k) ⌝ }
+    ensures { λ r. ⌜ (Put (now (out .entry)) at (decimalDigits k n) (now (out .exit)) r) × (r ≤ at + k) ⌝ }
 {
     if k == 0 {
         return at;

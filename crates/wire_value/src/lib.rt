@@ -5,7 +5,7 @@ use wire_varint::varint_at;
 ghost use mathlib.Core.Path.{_≡_};
 ghost use Prim.Native.Nat.{_<_};
 ghost use Rattle.wire_varint.specs.Varint.{varintAt};
-ghost use Rattle.wire_value.specs.Field.{fixedAt, numberOf, partOf, payloadAt};
+ghost use Rattle.wire_value.specs.Field.{fixedAt, numberPayload, partOf, payloadAt};
 
 // A field's value, or the refusal with its place.
 pub enum Payload {
@@ -37,7 +37,7 @@ fn fixed_at(s: &[u8], at: usize, from: usize, width: usize) -> Payload
 
 // A number alone, as packed lists have it.
 pub fn number_at(s: &[u8], at: usize) -> Payload
-    ensures { λ r. ⌜ r ≡ numberOf at (varintAt (now (s .entry)) at) ⌝ }
+    ensures { λ r. ⌜ r ≡ numberPayload at (varintAt (now (s .entry)) at) ⌝ }
 {
     match varint_at(s, at) {
         Varint::Value { value, next } => Payload::Number { value, next },

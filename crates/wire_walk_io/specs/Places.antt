@@ -16,13 +16,13 @@ use Rattle.wire_walk_io.specs.declared.time.TimeRead.the-variants as tim
 use Rattle.wire_walk_io.specs.declared.io.IoRead.{IoRead}
 use Rattle.wire_walk_io.specs.declared.io.IoRead.the-variants as ioread
 
-abbrev pub timeOf : List ℕ → Time
-timeOf s = record { seconds = numberIn 1 s; nanos = numberIn 2 s }
+abbrev pub timeNumbers : List ℕ → Time
+timeNumbers s = record { seconds = numberIn 1 s; nanos = numberIn 2 s }
 
 unfoldable pub timeFrom : List ℕ → Last → Time
 timeFrom s last.Nothing = record { seconds = 0; nanos = 0 }
 timeFrom s (last.Number f v) = record { seconds = 0; nanos = 0 }
-timeFrom s (last.Part f a e) = timeOf (part s a e)
+timeFrom s (last.Part f a e) = timeNumbers (part s a e)
 
 abbrev pub timeIn : ℕ → List ℕ → Time
 timeIn f s = timeFrom s (lastIn f f s)
@@ -33,7 +33,7 @@ timeRead checked.Fine t = timeread.Fine (t .seconds) (t .nanos)
 timeRead (checked.Refused r p) t = timeread.Refused r p
 
 abbrev pub timeSpecOf : List ℕ → TimeRead
-timeSpecOf s = timeRead (checkOf TimeSpec s) (timeOf s)
+timeSpecOf s = timeRead (checkOf TimeSpec s) (timeNumbers s)
 
 -- an I/O buffer that is fine, by its delay and where its data is
 unfoldable pub ioRead : Checked → Time → Last → IoRead

@@ -1,19 +1,19 @@
 use native.Mathlib.Omega.{arith}
 use mathlib.Core.Path.{subst, sym}
 use Rattle.wire_fast_client.specs.Plain.{IoSaid}
-use Rattle.wire_fast_client.proofs.Plains.{delay-lies, delay-data}
+use Rattle.wire_fast_client.proofs.Plains.{delay-in-bounds, delay-data}
 use borrow.Author.Needs.{needs}
 use Rattle.wire_fast_client.proofs.from_delay.Statement.{statement}
 use Rattle.wire_fast_client.proofs.from_delay.Tie as tie
 
 sub-plain-time : tie.Need-sub-plain-time
-sub-plain-time c = delay-lies _ (c .before .pre .0) _ _ (c .before .pre .1) .0
+sub-plain-time c = delay-in-bounds _ (c .before .pre .0) _ _ (c .before .pre .1) .0
 
 part-plain-time-start : tie.Need-part-plain-time-start
-part-plain-time-start c = let z = delay-lies _ (c .before .pre .0) _ _ (c .before .pre .1) in omega arith
+part-plain-time-start c = let z = delay-in-bounds _ (c .before .pre .0) _ _ (c .before .pre .1) in omega arith
 
 part-plain-time-end : tie.Need-part-plain-time-end
-part-plain-time-end c = let z = delay-lies _ (c .before .pre .0) _ _ (c .before .pre .1) in omega arith
+part-plain-time-end c = let z = delay-in-bounds _ (c .before .pre .0) _ _ (c .before .pre .1) in omega arith
 
 returns : tie.Need-returns
 returns c =

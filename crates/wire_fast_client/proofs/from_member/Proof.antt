@@ -1,15 +1,15 @@
 use native.Mathlib.Omega.{arith}
 use Rattle.wire_fast_client.specs.Plain.{ClientSaid}
-use Rattle.wire_fast_client.proofs.Plains.{member-lies, member-within, member-io}
+use Rattle.wire_fast_client.proofs.Plains.{member-in-bounds, member-within, member-io}
 use borrow.Author.Needs.{needs}
 use Rattle.wire_fast_client.proofs.from_member.Statement.{statement}
 use Rattle.wire_fast_client.proofs.from_member.Tie as tie
 
 sub-plain-io : tie.Need-sub-plain-io
-sub-plain-io c = member-lies _ _ (c .before .pre .0 .0) (c .before .pre .0 .1) _ _ (c .before .pre .1 .0) .0
+sub-plain-io c = member-in-bounds _ _ (c .before .pre .0 .0) (c .before .pre .0 .1) _ _ (c .before .pre .1 .0) .0
 
 part-plain-io-start : tie.Need-part-plain-io-start
-part-plain-io-start c = let z = member-lies _ _ (c .before .pre .0 .0) (c .before .pre .0 .1) _ _ (c .before .pre .1 .0) in omega arith
+part-plain-io-start c = let z = member-in-bounds _ _ (c .before .pre .0 .0) (c .before .pre .0 .1) _ _ (c .before .pre .1 .0) in omega arith
 
 add-t16 : tie.Need-add-t16
 add-t16 c =

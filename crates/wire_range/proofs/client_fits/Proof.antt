@@ -3,7 +3,7 @@ use Rattle.wire_range.specs.Range.{clientFits, bodyFits}
 use native.Mathlib.Omega.{arith}
 use mathlib.Core.Path.{_≡_, sym, subst, _∙_}
 use Rattle.wire_fields.proofs.Items.{last-means}
-use Rattle.wire_fields.proofs.Follow.{LastLies, last-in-lies}
+use Rattle.wire_fields.proofs.Follow.{LastInBounds, last-in-in-bounds}
 use borrow.Author.Needs.{needs}
 use Rattle.wire_range.proofs.client_fits.Statement.{statement}
 use Rattle.wire_range.proofs.client_fits.Tie as tie
@@ -13,16 +13,16 @@ sub-body-fits c =
     let at-number = c .before .before .before in
     let at-last-in = at-number .before .before in
     let at-start = at-last-in .before .before in
-    subst (LastLies (at-start .args .s .now)) (sym (at-last-in .last-in .ensures) ∙ at-number .number .given .1)
-    (last-in-lies (at-start .args .s .now) 1 13) .0
+    subst (LastInBounds (at-start .args .s .now)) (sym (at-last-in .last-in .ensures) ∙ at-number .number .given .1)
+    (last-in-in-bounds (at-start .args .s .now) 1 13) .0
 
 part-body-fits-start : tie.Need-part-body-fits-start
 part-body-fits-start c =
     let at-number = c .before .before .before in
     let at-last-in = at-number .before .before in
     let at-start = at-last-in .before .before in
-    let h = subst (LastLies (at-start .args .s .now)) (sym (at-last-in .last-in .ensures) ∙ at-number .number .given .1)
-    (last-in-lies (at-start .args .s .now) 1 13) in
+    let h = subst (LastInBounds (at-start .args .s .now)) (sym (at-last-in .last-in .ensures) ∙ at-number .number .given .1)
+    (last-in-in-bounds (at-start .args .s .now) 1 13) in
     omega arith
 
 part-body-fits-end : tie.Need-part-body-fits-end
@@ -30,8 +30,8 @@ part-body-fits-end c =
     let at-number = c .before .before .before in
     let at-last-in = at-number .before .before in
     let at-start = at-last-in .before .before in
-    let h = subst (LastLies (at-start .args .s .now)) (sym (at-last-in .last-in .ensures) ∙ at-number .number .given .1)
-    (last-in-lies (at-start .args .s .now) 1 13) in
+    let h = subst (LastInBounds (at-start .args .s .now)) (sym (at-last-in .last-in .ensures) ∙ at-number .number .given .1)
+    (last-in-in-bounds (at-start .args .s .now) 1 13) in
     omega arith
 
 returns : tie.Need-returns

@@ -3,7 +3,7 @@ use Rattle.wire_range.specs.Range.{serverFits}
 use native.Mathlib.Omega.{arith}
 use mathlib.Core.Path.{sym, subst, _∙_}
 use Rattle.wire_fields.proofs.Items.{last-means}
-use Rattle.wire_fields.proofs.Follow.{LastLies, last-in-lies}
+use Rattle.wire_fields.proofs.Follow.{LastInBounds, last-in-in-bounds}
 use borrow.Author.Needs.{needs}
 use Rattle.wire_range.proofs.server_fits.Statement.{statement}
 use Rattle.wire_range.proofs.server_fits.Tie as tie
@@ -13,16 +13,16 @@ sub-time-spec-in c =
     let at-number = c .before .before in
     let at-last-in = at-number .before .before in
     let at-start = at-last-in .before .before in
-    subst (LastLies (at-start .args .s .now)) (sym (at-last-in .last-in .ensures) ∙ at-number .number .given .1)
-    (last-in-lies (at-start .args .s .now) 1 5) .0
+    subst (LastInBounds (at-start .args .s .now)) (sym (at-last-in .last-in .ensures) ∙ at-number .number .given .1)
+    (last-in-in-bounds (at-start .args .s .now) 1 5) .0
 
 part-time-spec-in-start : tie.Need-part-time-spec-in-start
 part-time-spec-in-start c =
     let at-number = c .before .before in
     let at-last-in = at-number .before .before in
     let at-start = at-last-in .before .before in
-    let h = subst (LastLies (at-start .args .s .now)) (sym (at-last-in .last-in .ensures) ∙ at-number .number .given .1)
-    (last-in-lies (at-start .args .s .now) 1 5) in
+    let h = subst (LastInBounds (at-start .args .s .now)) (sym (at-last-in .last-in .ensures) ∙ at-number .number .given .1)
+    (last-in-in-bounds (at-start .args .s .now) 1 5) in
     omega arith
 
 part-time-spec-in-end : tie.Need-part-time-spec-in-end
@@ -30,8 +30,8 @@ part-time-spec-in-end c =
     let at-number = c .before .before in
     let at-last-in = at-number .before .before in
     let at-start = at-last-in .before .before in
-    let h = subst (LastLies (at-start .args .s .now)) (sym (at-last-in .last-in .ensures) ∙ at-number .number .given .1)
-    (last-in-lies (at-start .args .s .now) 1 5) in
+    let h = subst (LastInBounds (at-start .args .s .now)) (sym (at-last-in .last-in .ensures) ∙ at-number .number .given .1)
+    (last-in-in-bounds (at-start .args .s .now) 1 5) in
     omega arith
 
 returns : tie.Need-returns

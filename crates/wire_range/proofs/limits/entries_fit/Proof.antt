@@ -1,6 +1,6 @@
 use Rattle.wire_range.specs.Limits.{entriesFit}
 use Rattle.wire_message.specs.Message.{Bytes, entry, entries}
-use Rattle.wire_elements.proofs.Elements.{all-elements, found-none, found-part, found-lies}
+use Rattle.wire_elements.proofs.Elements.{all-elements, found-none, found-part, found-in-bounds}
 use Rattle.wire_elements.specs.Elements.{elementsAt}
 use Rattle.wire_fields.specs.Items.{items}
 use lib.ListN.{length}
@@ -28,7 +28,7 @@ sub-entry-fits c =
     let at-next-part = at-start .before .before in
     let at-loop = at-next-part .before in
     let at-start' = at-loop .before .before in
-    found-lies (at-start' .args .number) (at-start' .args .s .now) (at-loop .loop .at)
+    found-in-bounds (at-start' .args .number) (at-start' .args .s .now) (at-loop .loop .at)
     (sym (at-next-part .next-part .ensures) ∙ at-start .start .given .1) .1
 
 part-entry-fits-start : tie.Need-part-entry-fits-start Inv-loop μ-loop
@@ -37,7 +37,7 @@ part-entry-fits-start c =
     let at-next-part = at-start .before .before in
     let at-loop = at-next-part .before in
     let at-start' = at-loop .before .before in
-    let h = found-lies (at-start' .args .number) (at-start' .args .s .now) (at-loop .loop .at)
+    let h = found-in-bounds (at-start' .args .number) (at-start' .args .s .now) (at-loop .loop .at)
     (sym (at-next-part .next-part .ensures) ∙ at-start .start .given .1) in
     omega arith
 
@@ -47,7 +47,7 @@ part-entry-fits-end c =
     let at-next-part = at-start .before .before in
     let at-loop = at-next-part .before in
     let at-start' = at-loop .before .before in
-    let h = found-lies (at-start' .args .number) (at-start' .args .s .now) (at-loop .loop .at)
+    let h = found-in-bounds (at-start' .args .number) (at-start' .args .s .now) (at-loop .loop .at)
     (sym (at-next-part .next-part .ensures) ∙ at-start .start .given .1) in
     omega arith
 
@@ -57,7 +57,7 @@ loop-less c =
     let at-next-part = at-start .before .before in
     let at-loop = at-next-part .before in
     let at-start' = at-loop .before .before in
-    let h = found-lies (at-start' .args .number) (at-start' .args .s .now) (at-loop .loop .at)
+    let h = found-in-bounds (at-start' .args .number) (at-start' .args .s .now) (at-loop .loop .at)
     (sym (at-next-part .next-part .ensures) ∙ at-start .start .given .1) in
     omega arith
 
