@@ -1,7 +1,7 @@
 -- Laws of `fieldsAt`: how it goes on at a place.
 use Prim.Native.Nat.{ℕ, zero, suc, _-_, _≤_, _<_}
 use native.Mathlib.Omega.{arith}
-use mathlib.Core.Path.{_≡_, refl, sym, ap, _∙_}
+use mathlib.Core.Path.{_≡_, refl, sym, ap, subst, _∙_}
 use mathlib.Core.List.{List, [], _∷_}
 use mathlib.Core.Logic.{⊎-elim}
 use lib.ListN.{length}
@@ -127,6 +127,10 @@ last-lies s lo hi l (e ∷ es) h i = last-lies s lo hi (later lo hi l e) es (lat
 pub last-in-lies : (s : List ℕ) (lo hi : ℕ) → LastLies s (lastIn lo hi s)
 unfolding fieldsAt
 last-in-lies s lo hi = last-lies s lo hi last.Nothing (fieldsOf s) tt (lies (suc (length s - 0)) s 0)
+
+-- a part that last_in answered, as l, lies within the message
+pub part-lies : (s : List ℕ) (lo hi : ℕ) {l : Last} {f a e : ℕ} → l ≡ lastIn lo hi s → l ≡ last.Part f a e → (a ≤ e) × (e ≤ length s)
+part-lies s lo hi h is = subst (LastLies s) (sym h ∙ is) (last-in-lies s lo hi)
 
 ends-lie : (s : List ℕ) (l : Last) → LastLies s l → (startFrom l ≤ endFrom l) × (endFrom l ≤ length s)
 unfolding startFrom endFrom
