@@ -1,7 +1,7 @@
 -- Laws of `fieldsAt`: how it goes on at a place.
 use Prim.Native.Nat.{ℕ, zero, suc, _-_, _≤_, _<_}
 use native.Mathlib.Omega.{arith}
-use mathlib.Core.Path.{_≡_, refl, sym, ap, _∙_}
+use mathlib.Core.Path.{_≡_, refl, sym, ap, subst, _∙_}
 use mathlib.Core.List.{List, [], _∷_}
 use mathlib.Core.Logic.{⊎-elim}
 use lib.ListN.{length}
@@ -127,6 +127,10 @@ last-in-bounds s lo hi l (e ∷ es) h i = last-in-bounds s lo hi (later lo hi l 
 pub last-in-in-bounds : (s : List ℕ) (lo hi : ℕ) → LastInBounds s (lastIn lo hi s)
 unfolding fieldsAt
 last-in-in-bounds s lo hi = last-in-bounds s lo hi last.Nothing (fieldsOf s) tt (in-bounds (suc (length s - 0)) s 0)
+
+-- a part that last_in answered, as l, lies within the message
+pub part-in-bounds : (s : List ℕ) (lo hi : ℕ) {l : Last} {f a e : ℕ} → l ≡ lastIn lo hi s → l ≡ last.Part f a e → (a ≤ e) × (e ≤ length s)
+part-in-bounds s lo hi h is = subst (LastInBounds s) (sym h ∙ is) (last-in-in-bounds s lo hi)
 
 ends-are-in-bounds : (s : List ℕ) (l : Last) → LastInBounds s l → (startFrom l ≤ endFrom l) × (endFrom l ≤ length s)
 unfolding startFrom endFrom

@@ -1,6 +1,6 @@
 -- The last field of some numbers, by its place, is the last item of these numbers, by what it holds.
 use Prim.Native.Nat.{ℕ}
-use mathlib.Core.Path.{_≡_, refl, ap, _∙_}
+use mathlib.Core.Path.{_≡_, refl, sym, ap, _∙_}
 use mathlib.Core.List.{List, [], _∷_, map}
 use mathlib.Core.Bool.{Bool, true, false}
 use Rattle.base_laws.specs.Base.{pick, part}
@@ -38,6 +38,10 @@ module _ (s : List ℕ) where
     pub last-means : contentOf (lastIn lo hi s) ≡ lastItem lo hi (items s)
     unfolding items
     last-means = all last.Nothing (fieldsOf s)
+
+  -- the same by what last_in answered, l, and what that is
+  pub last-is : (lo hi : ℕ) {l x : Last} → l ≡ lastIn lo hi s → l ≡ x → contentOf x ≡ lastItem lo hi (items s)
+  last-is lo hi e is = ap contentOf (sym is ∙ e) ∙ last-means lo hi
 
   number-of : (l : Last) → numberFrom l ≡ numberOf (contentOf l)
   unfolding numberFrom numberOf

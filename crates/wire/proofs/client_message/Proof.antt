@@ -1,3 +1,4 @@
+-- The places are the contract of `client`; that they mean the message is Members.client-means.
 use Rattle.wire.proofs.Members.{client-means}
 use borrow.Author.Needs.{needs}
 use Rattle.wire.proofs.client_message.Statement.{statement}

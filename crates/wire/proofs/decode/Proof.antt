@@ -1,3 +1,4 @@
+-- Each case of the check, and of no_member, is one of `decodeNumber`.
 use Rattle.wire.specs.Read.{decodeNumber, checkNumber}
 use mathlib.Core.Path.{sym, _∙_}
 use borrow.Author.Needs.{needs}

@@ -1,3 +1,4 @@
+-- Each case of the check, of no_member and of in_range is one of `readNumber`.
 use Rattle.wire.specs.Read.{readNumber, checkNumber}
 use mathlib.Core.Path.{sym, _∙_}
 use borrow.Author.Needs.{needs}
@@ -17,11 +18,9 @@ unfolding readNumber checkNumber
 returns-2 c =
     let at-in-range = c .before in
     let at-if1 = at-in-range .before in
-    let at-no-member = at-if1 .before in
-    let at-enum-told = at-no-member .before in
-    let at-check = at-enum-told .before .before in
-    rw
-    (sym (at-check .check .ensures) ∙ at-enum-told .enum-told .given .1, sym (at-no-member .no-member .ensures) ∙ at-if1 .if1 .left, sym (at-in-range .in-range .ensures) ∙ c .if2 .taken)
+    let at-told = at-if1 .before .before in
+    let fine = sym (at-told .before .before .check .ensures) ∙ at-told .enum-told .given .1 in
+    rw (fine, sym (at-if1 .before .no-member .ensures) ∙ at-if1 .if1 .left, sym (at-in-range .in-range .ensures) ∙ c .if2 .taken)
 
 returns-3 : tie.Need-returns-3
 unfolding readNumber checkNumber
@@ -32,11 +31,9 @@ unfolding readNumber checkNumber
 returns-4 c =
     let at-in-range = c .before in
     let at-if1 = at-in-range .before in
-    let at-no-member = at-if1 .before in
-    let at-enum-told = at-no-member .before in
-    let at-check = at-enum-told .before .before in
-    rw
-    (sym (at-check .check .ensures) ∙ at-enum-told .enum-told .given .1, sym (at-no-member .no-member .ensures) ∙ at-if1 .if1 .left, sym (at-in-range .in-range .ensures) ∙ c .if2 .left)
+    let at-told = at-if1 .before .before in
+    let fine = sym (at-told .before .before .check .ensures) ∙ at-told .enum-told .given .1 in
+    rw (fine, sym (at-if1 .before .no-member .ensures) ∙ at-if1 .if1 .left, sym (at-in-range .in-range .ensures) ∙ c .if2 .left)
 
 pub read-spec : {M : Type 1} → statement M
 read-spec =

@@ -1,3 +1,4 @@
+-- The loop keeps "the check from `at` on is the whole's"; a step follows its field (Checks.next), the message within is the recursion's claim at a shorter one.
 use mathlib.Core.List.{List}
 use borrow.Author.Needs.{needs}
 use native.Mathlib.Omega.{arith}
@@ -42,45 +43,47 @@ abbrev check-μ-loop : check-lts.MeasureT-loop
 check-μ-loop message s at₀ at = length s - at
 
 -- after a field's step: how far it reaches, and what is left to check
-after : (t : ℕ) (c : check-lts.After-step-at (cs t) (check-at t) check.Post check-Inv-loop check-μ-loop)
-    → (x : Step) → c .step-at .result ≡ x
-    → (StepRead (c .before .before .before .before .before .args .s .now) (c .before .before .loop .at) x)
-    × (onStep checkAt (c .before .before .before .before .before .args .message) (c .before .before .before .before .before .args .s .now) x
-    ≡ checkOf (c .before .before .before .before .before .args .message) (c .before .before .before .before .before .args .s .now))
+after : (t : ℕ) (c : check-lts.After-step-at (cs t) (check-at t) check.Post check-Inv-loop check-μ-loop) (x : Step) → c .step-at .result ≡ x →
+    let at-loop = c .before .before in
+    let a = at-loop .before .before .before .args in
+    (StepRead (a .s .now) (at-loop .loop .at) x) × (onStep checkAt (a .message) (a .s .now) x ≡ checkOf (a .message) (a .s .now))
 after t c x e =
-    let a = c .before .before .before .before .before .args in
-    let l = c .before .before .loop in
+    let at-loop = c .before .before in
+    let a = at-loop .before .before .before .args in
+    let l = at-loop .loop in
     let is = sym (c .step-at .ensures) ∙ e in (
       subst (StepRead (a .s .now) (l .at)) is (step-at (a .s .now) (a .message) (l .at) (l .inv .0)),
-      ap (λ (y : Step). onStep checkAt (a .message) (a .s .now) y) (sym is) ∙ sym (next (a .message) (a .s .now) (l .at) (c .before .loop-test .taken)) ∙ l .inv .1,
+      ap (λ (y : Step). onStep checkAt (a .message) (a .s .now) y) (sym is)
+          ∙ sym (next (a .message) (a .s .now) (l .at) (c .before .loop-test .taken))
+          ∙ l .inv .1,
     )
 
 -- at an embedded message: where it lies
-inside : (t : ℕ) (c : check-lts.After-known-told2 (cs t) (check-at t) check.Post check-Inv-loop check-μ-loop)
-    → StepRead (c .before .before .before .before .before .before .before .before .args .s .now) (c .before .before .before .before .before .loop .at)
-    (step.Inside (c .before .inner .given .0 .0) (c .before .inner .given .0 .1 .0) (c .before .inner .given .0 .1 .1 .0))
+inside : (t : ℕ) (c : check-lts.After-known-told2 (cs t) (check-at t) check.Post check-Inv-loop check-μ-loop) →
+    let at-loop = c .before .before .before .before .before in
+    let read = c .before .inner .given .0 in
+    StepRead (at-loop .before .before .before .args .s .now) (at-loop .loop .at) (step.Inside (read .0) (read .1 .0) (read .1 .1 .0))
 inside t c = after t (c .before .before .before) _ (c .before .inner .given .1) .0
 
 -- after the check of an embedded message: what is left to check
-afterwards : (t : ℕ) (c : check-lts.After-check (cs t) (check-at t) check.Post check-Inv-loop check-μ-loop)
-    → (x : Checked) → c .check .result ≡ x
-    → before (c .before .before .before .inner .given .0 .1 .0) x
-    (checkAt (c .before .before .before .before .before .before .before .before .before .before .args .message) (c .before .before .before .before .before .before .before .before .before .before .args .s .now) (c .before .before .before .inner .given .0 .1 .1 .0))
-    ≡ checkOf (c .before .before .before .before .before .before .before .before .before .before .args .message) (c .before .before .before .before .before .before .before .before .before .before .args .s .now)
+afterwards : (t : ℕ) (c : check-lts.After-check (cs t) (check-at t) check.Post check-Inv-loop check-μ-loop) (x : Checked) → c .check .result ≡ x →
+    let at-inner = c .before .before .before in
+    let a = at-inner .before .before .before .before .before .before .before .args in
+    let read = at-inner .inner .given .0 in
+    before (read .1 .0) x (checkAt (a .message) (a .s .now) (read .1 .1 .0)) ≡ checkOf (a .message) (a .s .now)
 unfolding onStep
 afterwards t c x e =
-    let i = c .before .before .before in
-    let a = i .before .before .before .before .before .before .before .args in
-    ap (λ (y : Checked). before (i .inner .given .0 .1 .0) y (checkAt (a .message) (a .s .now) (i .inner .given .0 .1 .1 .0))) (sym e ∙ c .check .ensures)
-    ∙ after t (i .before .before) _ (i .inner .given .1) .1
+    let at-inner = c .before .before .before in
+    let a = at-inner .before .before .before .before .before .before .before .args in
+    let read = at-inner .inner .given .0 in
+    ap (λ (y : Checked). before (read .1 .0) y (checkAt (a .message) (a .s .now) (read .1 .1 .0))) (sym e ∙ c .check .ensures)
+    ∙ after t (at-inner .before .before) _ (at-inner .inner .given .1) .1
 
 check-sound-entry-requires : (t : ℕ) → check-lts.Need-sound-entry-requires (cs t) (check-at t) check.Post check-Inv-loop check-μ-loop
 check-sound-entry-requires t c κs = search needs
 
 check-returns : (t : ℕ) → check-lts.Need-returns (cs t) (check-at t) check.Post check-Inv-loop check-μ-loop
-check-returns t c = let e = c .before in
-    let m = e .before in
-    rw (m .if1 .taken) (sym (e .sound-entry .ensures (c .if2 .taken)))
+check-returns t c = rw (c .before .before .if1 .taken) (sym (c .before .sound-entry .ensures (c .if2 .taken)))
 
 check-loop-holds : (t : ℕ) → check-lts.Need-loop-holds (cs t) (check-at t) check.Post check-Inv-loop check-μ-loop
 check-loop-holds t c = (omega arith, refl)
@@ -111,10 +114,12 @@ check-part-check-end : (t : ℕ) → check-lts.Need-part-check-end (cs t) (check
 check-part-check-end t c = let h = inside t c in omega arith
 
 check-check-requires : (t : ℕ) → check-lts.Need-check-requires (cs t) (check-at t) check.Post check-Inv-loop check-μ-loop
-check-check-requires t c κs = let k = c .before in
-    let h = inside t k in
-    let a = k .before .before .before .before .before .before .before .before .args in
-    (omega (arith, length-part (a .s .now) (k .before .inner .given .0 .1 .0) (k .before .inner .given .0 .1 .1 .0) (h .1) (h .2)), tt)
+check-check-requires t c κs =
+    let at-inner = c .before .before in
+    let in-bounds = inside t (c .before) in
+    let s = at-inner .before .before .before .before .before .before .before .args .s .now in
+    let read = at-inner .inner .given .0 in
+    (omega (arith, length-part s (read .1 .0) (read .1 .1 .0) (in-bounds .1) (in-bounds .2)), tt)
 
 check-enum-told : (t : ℕ) → check-lts.Need-enum-told (cs t) (check-at t) check.Post check-Inv-loop check-μ-loop
 check-enum-told t c = search needs
@@ -130,13 +135,15 @@ check-enum-known-refusal : (t : ℕ) → check-lts.Need-enum-known-refusal (cs t
 check-enum-known-refusal t c = search needs
 
 check-add-t22 : (t : ℕ) → check-lts.Need-add-t22 (cs t) (check-at t) check.Post check-Inv-loop check-μ-loop
-check-add-t22 t c = let ck = c .before .before .before in
-    let i = ck .before .before .before in
-    let h = inside t (ck .before .before) in
-    let a = i .before .before .before .before .before .before .before .args in
-    let p : List ℕ = part (a .s .now) (i .inner .given .0 .1 .0) (i .inner .given .0 .1 .1 .0) in
-    let q = subst (Placed p) (sym (ck .check .ensures) ∙ c .before .refusal .given .1) (placed (i .inner .given .0 .0) p 0) in
-    omega (arith, length-part (a .s .now) (i .inner .given .0 .1 .0) (i .inner .given .0 .1 .1 .0) (h .1) (h .2), q)
+check-add-t22 t c =
+    let at-check = c .before .before .before in
+    let at-inner = at-check .before .before .before in
+    let in-bounds = inside t (at-check .before .before) in
+    let s = at-inner .before .before .before .before .before .before .before .args .s .now in
+    let read = at-inner .inner .given .0 in
+    let p : List ℕ = part s (read .1 .0) (read .1 .1 .0) in
+    let place = subst (Placed p) (sym (at-check .check .ensures) ∙ c .before .refusal .given .1) (placed (read .0) p 0) in
+    omega (arith, length-part s (read .1 .0) (read .1 .1 .0) (in-bounds .1) (in-bounds .2), place)
 
 check-returns-2 : (t : ℕ) → check-lts.Need-returns-2 (cs t) (check-at t) check.Post check-Inv-loop check-μ-loop
 unfolding before
@@ -150,8 +157,10 @@ unfolding onStep
 check-returns-3 t c = after t (c .before .before .before) _ (c .before .refusal2 .given .1) .1
 
 check-returns-4 : (t : ℕ) → check-lts.Need-returns-4 (cs t) (check-at t) check.Post check-Inv-loop check-μ-loop
-check-returns-4 t c = let a = c .before .before .before .before .args in
-    sym (at-end (a .message) (a .s .now) (c .before .loop .at) (c .loop-test .left)) ∙ c .before .loop .inv .1
+check-returns-4 t c =
+    let at-loop = c .before in
+    let a = at-loop .before .before .before .args in
+    sym (at-end (a .message) (a .s .now) (at-loop .loop .at) (c .loop-test .left)) ∙ at-loop .loop .inv .1
 
 pub +check-spec : {M : Type 1} → statement M
 +check-spec = close μ-check λ t. check-lts.spec (cs t)

@@ -1,3 +1,4 @@
+-- Each case of the payload is one of the definition `stepOf`; a part is tested against 16.
 use borrow.Author.Tests.{le-leb, lt-leb}
 use Rattle.wire_check_field.specs.Check.{stepOf}
 use borrow.Author.Needs.{needs}

@@ -1,3 +1,4 @@
+-- A value in the open part is Numbers.at-value; past it, number_from goes on where Numbers.at-cursor says.
 use borrow.Author.Needs.{needs}
 use mathlib.Core.Path.{sym, ap, _∙_}
 use Prim.Native.Nat.{ℕ}

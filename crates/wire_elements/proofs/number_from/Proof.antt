@@ -1,4 +1,4 @@
--- The loop's invariant: the fields from `at` on hold the numbers that the fields from `from` on hold.
+-- The loop keeps "the fields from `at` on hold the numbers that those from `from` on hold"; a turn is Numbers.at-field, the end Numbers.at-end.
 use borrow.Author.Needs.{needs}
 use borrow.Author.Tests.{eq-eqb, ne-eqb}
 use native.Mathlib.Omega.{arith}
@@ -7,6 +7,7 @@ use Prim.Native.Nat.{_-_}
 use lib.ListN.{length}
 use Rattle.wire_fields.specs.Fields.{onField}
 use Rattle.wire_fields.specs.declared.Field.{Field}
+use Rattle.wire_fields.specs.declared.Field.the-variants as field
 use Rattle.wire_elements.specs.Elements.{itemsAt, onVarint, numbersOf, told}
 use Rattle.wire_elements.proofs.Numbers.{Leaves, at-field, at-end, at-part, part-value, number-value}
 use Rattle.wire_elements.proofs.number_from.Statement.{statement}
@@ -18,10 +19,20 @@ Inv-loop s from at₀ at = numbersOf (itemsAt s at) ≡ numbersOf (itemsAt s fro
 abbrev μ-loop : tie.MeasureT-loop
 μ-loop s from at₀ at = length s - at
 
-after : (c : tie.After-field-at Inv-loop μ-loop) → (x : Field) → c .field-at .result ≡ x
-    → Leaves (c .before .before .before .before .args .s .now) (c .before .before .before .before .args .from) (c .before .before .loop .at) x
-after c x e =
-    at-field _ _ _ x (c .before .loop-test .taken) (c .before .before .loop .inv) (sym (c .field-at .ensures) ∙ e)
+-- what a field leaves of the numbers
+after : (c : tie.After-field-at Inv-loop μ-loop) (x : Field) → c .field-at .result ≡ x →
+    let at-loop = c .before .before in
+    let a = at-loop .before .before .args in
+    Leaves (a .s .now) (a .from) (at-loop .loop .at) x
+after c x e = at-field _ _ _ x (c .before .loop-test .taken) (c .before .before .loop .inv) (sym (c .field-at .ensures) ∙ e)
+
+-- a part: what is left of its packed numbers
+at-packed : (c : tie.After-packed-in Inv-loop μ-loop) →
+    let at-loop = c .before .before .before .before .before .before in
+    let a = at-loop .before .before .args in
+    let read = c .before .before .number2 .given .0 in
+    Leaves (a .s .now) (a .from) (at-loop .loop .at) (field.Part (read .0) (read .1 .0) (read .1 .1 .0))
+at-packed c = after (c .before .before .before .before) _ (c .before .before .number2 .given .1)
 
 loop-holds : tie.Need-loop-holds Inv-loop μ-loop
 loop-holds c = refl
@@ -47,31 +58,21 @@ loop-again-2 c = after (c .before .before .before) _ (c .before .next .given .1)
 
 returns-2 : tie.Need-returns-2 Inv-loop μ-loop
 unfolding onField
-returns-2 c = let p = c .before .before .before in
-    part-value _ _ _ _ _ _ (sym (p .packed-in .ensures) ∙ c .before .value .given .1)
-    ∙ after (p .before .before .before .before) _ (p .before .before .number2 .given .1) .1
-
-loop-less-3 : tie.Need-loop-less-3 Inv-loop μ-loop
-loop-less-3 c = let p = c .before .before in
-    let h = after (p .before .before .before .before) _ (p .before .before .number2 .given .1) .0 in
-    omega arith
+returns-2 c =
+    let at-packed-in = c .before .before .before in
+    part-value _ _ _ _ _ _ (sym (at-packed-in .packed-in .ensures) ∙ c .before .value .given .1) ∙ at-packed at-packed-in .1
 
 loop-again-3 : tie.Need-loop-again-3 Inv-loop μ-loop
 unfolding onField onVarint
-loop-again-3 c = let p = c .before .before in
-    at-part _ _ _ _ _ (sym (p .packed-in .ensures) ∙ c .enum-told .given .1)
-    ∙ after (p .before .before .before .before) _ (p .before .before .number2 .given .1) .1
-
-loop-less-4 : tie.Need-loop-less-4 Inv-loop μ-loop
-loop-less-4 c = let p = c .before .before in
-    let h = after (p .before .before .before .before) _ (p .before .before .number2 .given .1) .0 in
-    omega arith
+loop-again-3 c =
+    let at-packed-in = c .before .before in
+    at-part _ _ _ _ _ (sym (at-packed-in .packed-in .ensures) ∙ c .enum-told .given .1) ∙ at-packed at-packed-in .1
 
 loop-again-4 : tie.Need-loop-again-4 Inv-loop μ-loop
 unfolding onField onVarint
-loop-again-4 c = let p = c .before .before in
-    at-part _ _ _ _ _ (sym (p .packed-in .ensures) ∙ c .enum-told2 .given .1)
-    ∙ after (p .before .before .before .before) _ (p .before .before .number2 .given .1) .1
+loop-again-4 c =
+    let at-packed-in = c .before .before in
+    at-part _ _ _ _ _ (sym (at-packed-in .packed-in .ensures) ∙ c .enum-told2 .given .1) ∙ at-packed at-packed-in .1
 
 returns-3 : tie.Need-returns-3 Inv-loop μ-loop
 unfolding onField numbersOf told
@@ -101,10 +102,10 @@ number-from-spec =
     (λ c. search needs)
     returns-2
     (λ c. search needs)
-    loop-less-3
+    (λ c. let leaves = at-packed (c .before .before) .0 in omega arith)
     loop-again-3
     (λ c. search needs)
-    loop-less-4
+    (λ c. let leaves = at-packed (c .before .before) .0 in omega arith)
     loop-again-4
     (λ c. search needs)
     returns-3

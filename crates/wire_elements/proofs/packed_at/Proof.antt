@@ -1,3 +1,4 @@
+-- The part before `end` is what varint_at reads: length-take-le where it is cut short, take-all where it is whole.
 use mathlib.Core.Path.{sym}
 use borrow.Author.Needs.{needs}
 use lib.Seq.{length-take-le, take-all}

@@ -1,3 +1,4 @@
+-- Each case is the test of the contract: the ruleset tests closes both.
 use Rattle.base_laws.proofs.Tests.{tests}
 use Rattle.wire_elements.proofs.resumed.Statement.{statement}
 use Rattle.wire_elements.proofs.resumed.Tie as tie

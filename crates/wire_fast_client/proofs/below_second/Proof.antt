@@ -1,3 +1,4 @@
+-- What nanos_at found is Plains.only-nanos; anything else says nothing.
 use Rattle.wire_fast_client.proofs.Plains.{only-nanos}
 use Rattle.wire_fast_client.specs.Plain.{TimeSaid}
 use borrow.Author.Needs.{needs}

@@ -1,3 +1,4 @@
+-- What plain_client found is the message's, by its `ClientSaid`; where it found nothing, client_walk's contract is this one's.
 use mathlib.Core.Path.{subst}
 use Rattle.wire_fast_client.specs.Plain.{ClientSaid}
 use borrow.Author.Needs.{needs}

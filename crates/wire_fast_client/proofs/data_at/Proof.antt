@@ -1,3 +1,4 @@
+-- No byte is left, or a tag (Plains.tag-there) with a part that ends the buffer (Lengths.found-part); anything else says nothing.
 use mathlib.Core.Path.{sym, _∙_}
 use native.Mathlib.Omega.{arith}
 use Rattle.wire_fast_client.specs.Plain.{Tailed}

@@ -1,3 +1,4 @@
+-- The delay lies in the buffer (Plains.delay-lies); with it and what data_at ensures the buffer is Plains.delay-data.
 use native.Mathlib.Omega.{arith}
 use mathlib.Core.Path.{subst, sym}
 use Rattle.wire_fast_client.specs.Plain.{IoSaid}
@@ -7,23 +8,17 @@ use Rattle.wire_fast_client.proofs.from_delay.Statement.{statement}
 use Rattle.wire_fast_client.proofs.from_delay.Tie as tie
 
 sub-plain-time : tie.Need-sub-plain-time
-sub-plain-time c = delay-in-bounds _ (c .before .pre .0) _ _ (c .before .pre .1) .0
-
-part-plain-time-start : tie.Need-part-plain-time-start
-part-plain-time-start c = let z = delay-in-bounds _ (c .before .pre .0) _ _ (c .before .pre .1) in omega arith
-
-part-plain-time-end : tie.Need-part-plain-time-end
-part-plain-time-end c = let z = delay-in-bounds _ (c .before .pre .0) _ _ (c .before .pre .1) in omega arith
+sub-plain-time c = let pre = c .before .pre in delay-in-bounds _ (pre .0) _ _ (pre .1) .0
 
 returns : tie.Need-returns
 returns c =
-    let at-data-at = c .before in
-    let at-seconds = at-data-at .before .before in
-    let at-plain-time = at-seconds .before .before in
-    let at-start = at-plain-time .before .before .before in
-    subst (IoSaid (at-start .args .s .now)) (sym (c .with-data .ensures))
-    (delay-data _ (at-start .pre .0) _ _ (at-start .pre .1) _ (at-plain-time .plain-time .ensures) _ _ (at-seconds .seconds .given .1)
-    _ (at-data-at .data-at .ensures))
+    let at-data = c .before in
+    let at-seconds = at-data .before .before in
+    let at-time = at-seconds .before .before in
+    let at-start = at-time .before .before .before in
+    let pre = at-start .pre in
+    let said = delay-data _ (pre .0) _ _ (pre .1) _ (at-time .plain-time .ensures) _ _ (at-seconds .seconds .given .1) _ (at-data .data-at .ensures) in
+    subst (IoSaid (at-start .args .s .now)) (sym (c .with-data .ensures)) said
 
 returns-2 : tie.Need-returns-2
 unfolding IoSaid
@@ -34,8 +29,8 @@ from-delay-spec =
     tie.close
     (tie.spec
     sub-plain-time
-    part-plain-time-start
-    part-plain-time-end
+    (λ c. let pre = c .before .pre in let in-bounds = delay-in-bounds _ (pre .0) _ _ (pre .1) in omega arith)
+    (λ c. let pre = c .before .pre in let in-bounds = delay-in-bounds _ (pre .0) _ _ (pre .1) in omega arith)
     (λ c κs. search needs)
     (λ c. search needs)
     (λ c κs. search needs)

@@ -1,3 +1,4 @@
+-- Each case is a test of the definition `isIo`.
 use borrow.Author.Tests.{le-leb, lt-leb}
 use Rattle.wire_fast_client.specs.Plain.{isIo}
 use Rattle.wire_fast_client.proofs.is_io.Statement.{statement}

@@ -1,3 +1,4 @@
+-- A tag (Plains.tag-there) and a varint that ends the bytes are `Ends`; anything else says nothing.
 use Rattle.wire_fast_client.proofs.Plains.{tag-there}
 use Prim.Native.Nat.{ℕ}
 use mathlib.Core.Path.{ap}

@@ -1,3 +1,4 @@
+-- from_member's requirements are Plains.io-tag, Varints.one-byte and Lengths.found-part; where it is not called, nothing is said.
 use native.Mathlib.Omega.{arith}
 use mathlib.Core.Path.{sym, _∙_}
 use Rattle.wire_fast_client.specs.Plain.{ClientSaid}
@@ -12,14 +13,14 @@ use Rattle.wire_fast_client.proofs.plain_client.Tie as tie
 
 from-member-requires : tie.Need-from-member-requires
 from-member-requires c κs =
-    let at-start = c .before .before in
-    let at-part-found = at-start .before .before in
-    let io = at-part-found .before .before in
-    let w = io .before in
-    let tag = io-tag _ (sym (io .is-io .ensures) ∙ at-part-found .before .if2 .taken) in
-    let i : 0 < length (w .before .before .before .before .args .s .now) = omega (arith, w .before .before .if1 .left) in (
-      (tag, record { within = i; tagged = one-byte _ 0 _ i (sym (w .wide .ensures)) (omega (arith, tag .most)) }),
-      (found-part _ _ _ (at-part-found .part-found .ensures) _ _ (at-start .start .given .1), c .if3 .taken),
+    let at-part = c .before .before .before .before in
+    let at-is-io = at-part .before .before in
+    let at-wide = at-is-io .before in
+    let at-if1 = at-wide .before .before in
+    let tag = io-tag _ (sym (at-is-io .is-io .ensures) ∙ at-part .before .if2 .taken) in
+    let some : 0 < length (at-if1 .before .before .args .s .now) = omega (arith, at-if1 .if1 .left) in (
+      (tag, record { within = some; tagged = one-byte _ 0 _ some (sym (at-wide .wide .ensures)) (omega (arith, tag .most)) }),
+      (found-part _ _ _ (at-part .part-found .ensures) _ _ (c .before .before .start .given .1), c .if3 .taken),
     )
 
 pub plain-client-spec : {M : Type 1} → statement M

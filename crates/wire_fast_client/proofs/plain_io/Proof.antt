@@ -1,3 +1,4 @@
+-- from_delay's requirements are Plains.tag-there and Lengths.found-part; where it is not called, nothing is said.
 use mathlib.Core.Path.{sym, _∙_}
 use native.Mathlib.Omega.{arith}
 use Rattle.wire_fast_client.specs.Plain.{IoSaid}

@@ -1,3 +1,4 @@
+-- No bytes are Plains.empty-time; the rest are the contracts of below_second and from_seconds.
 use Rattle.wire_fast_client.proofs.Plains.{empty-time}
 use borrow.Author.Needs.{needs}
 use Rattle.wire_fast_client.proofs.plain_time.Statement.{statement}

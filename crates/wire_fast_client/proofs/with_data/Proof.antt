@@ -1,3 +1,4 @@
+-- Each case of the tail is one of the definition `withData`.
 use mathlib.Core.Path.{sym, ap}
 use Rattle.wire_fast_client.specs.declared.Tail.{Tail}
 use Rattle.wire_fast_client.specs.Plain.{withData}

@@ -1,3 +1,4 @@
+-- The two fields mean what the definition `accept` reads: Meaning.time-means, and flag_in's contract.
 use Rattle.wire_message.specs.Message.{accept}
 use Rattle.wire_message.specs.Places.{acceptValue}
 use Rattle.wire_message.proofs.Meaning.{time-means}

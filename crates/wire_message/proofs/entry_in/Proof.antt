@@ -1,3 +1,4 @@
+-- The key means what the definition `entry` reads, Items.bytes-means; the value is value_in's contract.
 use Rattle.wire_message.specs.Message.{entry}
 use Rattle.wire_message.specs.Places.{entryValue}
 use Rattle.wire_fields.proofs.Items.{bytes-means}

@@ -1,3 +1,4 @@
+-- Each field means what the definition `exit` reads: Meaning.time-means, Items.number-means and bytes-means; Follow.span-lies for the places.
 use Rattle.wire_message.specs.Message.{exit}
 use Rattle.wire_message.specs.Places.{exitValue}
 use Rattle.wire_message.proofs.Meaning.{time-means}
@@ -16,8 +17,8 @@ returns c =
     let at-time-in = at-number-in .before in
     let at-start = at-time-in .before .before in
     let s = at-start .args .s .now in (
-      rw
-          (at-time-in .time-in .ensures, time-means 1 s, at-number-in .number-in .ensures, number-means s 2, at-flag-in .flag-in .ensures, at-part-in .part-in .ensures, bytes-means s 4, c .part-in2 .ensures, bytes-means s 5),
+      rw (at-time-in .time-in .ensures, time-means 1 s, at-number-in .number-in .ensures, number-means s 2)
+          (rw (at-flag-in .flag-in .ensures, at-part-in .part-in .ensures, bytes-means s 4, c .part-in2 .ensures, bytes-means s 5)),
       (rw (at-part-in .part-in .ensures) (span-in-bounds s 4), rw (c .part-in2 .ensures) (span-in-bounds s 5)),
     )
 

@@ -1,3 +1,4 @@
+-- The number means what `bool` reads: Items.number-means.
 use Rattle.wire_message.specs.Signed.{bool}
 use Rattle.wire_fields.proofs.Items.{number-means}
 use borrow.Author.Needs.{needs}

@@ -1,3 +1,4 @@
+-- Both fields mean what the definition `report` reads: Meaning.time-means and Items.bytes-means.
 use Rattle.wire_message.specs.Message.{report}
 use Rattle.wire_message.specs.Places.{reportValue}
 use Rattle.wire_message.proofs.Meaning.{time-means}

@@ -1,3 +1,4 @@
+-- Both fields mean what the definition `restart` reads: Items.bytes-means and Meaning.time-means.
 use Rattle.wire_message.specs.Message.{restart}
 use Rattle.wire_message.specs.Places.{restartValue}
 use Rattle.wire_message.proofs.Meaning.{time-means}

@@ -1,3 +1,4 @@
+-- Both texts mean what the definition `serverHello` reads, Items.bytes-means; the flag is flag_in's contract.
 use Rattle.wire_message.specs.Message.{serverHello}
 use Rattle.wire_message.specs.Places.{serverHelloValue}
 use Rattle.wire_fields.proofs.Items.{bytes-means}

@@ -1,3 +1,4 @@
+-- Both numbers mean what the definition `timeSpec` reads: Items.number-means.
 use Rattle.wire_message.specs.Message.{timeSpec}
 use Rattle.wire_message.specs.Places.{timeValue}
 use Rattle.wire_fields.proofs.Items.{number-means}

@@ -1,3 +1,4 @@
+-- The three fields mean what the definition `windowSize` reads: Meaning.time-means and Items.number-means.
 use Rattle.wire_message.specs.Message.{windowSize}
 use Rattle.wire_message.specs.Places.{windowValue}
 use Rattle.wire_message.proofs.Meaning.{time-means}
@@ -13,8 +14,8 @@ returns c =
     let at-time-in = at-number-in .before in
     let at-start = at-time-in .before .before in
     let s = at-start .args .s .now in
-    rw
-    (at-time-in .time-in .ensures, time-means 1 s, at-number-in .number-in .ensures, number-means s 2, c .number-in2 .ensures, number-means s 3)
+    rw (at-time-in .time-in .ensures, time-means 1 s, at-number-in .number-in .ensures, number-means s 2)
+    (rw (c .number-in2 .ensures, number-means s 3))
 
 pub window-size-in-spec : {M : Type 1} → statement M
 window-size-in-spec =

@@ -1,3 +1,4 @@
+-- Both cases are the test of `acceptFits`, by what date_in ensures; the entries are entries_fit's contract.
 use Rattle.wire_range.specs.Range.{acceptFits}
 use Rattle.wire_message.specs.Message.{accept}
 use mathlib.Core.Path.{sym, _∙_}

@@ -1,3 +1,4 @@
+-- Each case is a test of `exitFits`, by what moment_in, number_fits and length_in ensure.
 use Rattle.wire_range.specs.Range.{exitFits}
 use Rattle.wire_range.specs.Limits.{sized}
 use Rattle.wire_message.specs.Message.{exit}
@@ -13,9 +14,8 @@ returns c =
     let at-if2 = c .before in
     let at-number-fits = at-if2 .before in
     let at-if1 = at-number-fits .before in
-    let at-moment-in = at-if1 .before in
-    rw
-    (sym (at-moment-in .moment-in .ensures) ∙ at-if1 .if1 .taken, sym (at-number-fits .number-fits .ensures) ∙ at-if2 .if2 .taken, ← c .length-in .ensures, leb·zero (c .length-in .result))
+    rw (sym (at-if1 .before .moment-in .ensures) ∙ at-if1 .if1 .taken, sym (at-number-fits .number-fits .ensures) ∙ at-if2 .if2 .taken)
+    (rw (← c .length-in .ensures, leb·zero (c .length-in .result)))
 
 returns-2 : tie.Need-returns-2
 unfolding exitFits exit

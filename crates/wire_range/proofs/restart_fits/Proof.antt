@@ -1,3 +1,4 @@
+-- Each case is a test of `restartFits`, by what length_in ensures; the time is moment_in's contract.
 use Rattle.wire_range.specs.Range.{restartFits}
 use Rattle.wire_range.specs.Limits.{sized}
 use Rattle.wire_message.specs.Message.{restart}

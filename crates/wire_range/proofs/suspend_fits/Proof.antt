@@ -1,3 +1,4 @@
+-- Each case is a test of `suspendFits`, by what moment_in and length_in ensure.
 use Rattle.wire_range.specs.Range.{suspendFits}
 use Rattle.wire_range.specs.Limits.{sized}
 use Rattle.wire_message.specs.Message.{timed}

@@ -1,3 +1,4 @@
+-- Each case is a test of `windowFits`, by what moment_in and number_fits ensure.
 use Rattle.wire_range.specs.Range.{windowFits}
 use Rattle.wire_message.specs.Message.{windowSize}
 use mathlib.Core.Path.{sym, _∙_}

@@ -6,4 +6,11 @@ use Rattle.wire_schema.proofs.takes.Tie as tie
 
 pub takes-spec : {M : Type 1} → statement M
 unfolding takes
-takes-spec = tie.close (tie.spec (λ c. search tests) (λ c. search tests) (λ c. search tests) (λ c. search tests) (λ c. search tests))
+takes-spec =
+    tie.close
+    (tie.spec
+    (λ c. search tests)
+    (λ c. search tests)
+    (λ c. search tests)
+    (λ c. search tests)
+    (λ c. search tests))

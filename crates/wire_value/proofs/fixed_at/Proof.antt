@@ -1,4 +1,5 @@
 -- Each case is a test of `fixedAt`: too short from the start, room, or no room.
+use Rattle.base_laws.proofs.Tests.{tests}
 use lib.ListN.{length}
 use Prim.Native.Nat.{_-_}
 use borrow.Author.Tests.{le-leb, lt-leb}
@@ -14,13 +15,6 @@ returns c =
     let a = c .before .args in
     simp (lt-leb (a .width) (length (a .s .now) - a .from) (omega arith))
 
-returns-2 : tie.Need-returns-2
-unfolding fixedAt
-returns-2 c = simp (le-leb _ _ (c .if2 .taken))
-
-returns-3 : tie.Need-returns-3
-unfolding fixedAt
-returns-3 c = simp (lt-leb _ _ (c .if2 .left))
-
 pub fixed-at-spec : {M : Type 1} → statement M
-fixed-at-spec = tie.close (tie.spec returns (λ c. search needs) (λ c. search needs) returns-2 returns-3)
+unfolding fixedAt
+fixed-at-spec = tie.close (tie.spec returns (λ c. search needs) (λ c. search needs) (λ c. search tests) (λ c. search tests))

@@ -12,9 +12,9 @@ returns c =
     let at-if1 = at-if2 .before in
     let at-number = at-if1 .before .before in
     let at-tag-at = at-number .before .before in
-    rw
-    (sym (at-tag-at .tag-at .ensures) ∙ at-number .number .given .1, eq-eqb _ _ (at-if1 .if1 .taken), eq-eqb _ _ (at-if2 .if2 .taken))
-    (c .payload-at .ensures)
+    rw (sym (at-tag-at .tag-at .ensures) ∙ at-number .number .given .1, eq-eqb _ _ (at-if1 .if1 .taken))
+    (rw (eq-eqb _ _ (at-if2 .if2 .taken))
+    (c .payload-at .ensures))
 
 returns-2 : tie.Need-returns-2
 unfolding entryAt entryOf

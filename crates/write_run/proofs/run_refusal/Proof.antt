@@ -11,8 +11,8 @@ returns c =
     let at-entries-fit = c .before in
     let at-enum-told = at-entries-fit .before in
     let at-run-check = at-enum-told .before .before in
-    rw
-    (sym (at-run-check .run-check .ensures) ∙ at-enum-told .enum-told .given .1, sym (at-entries-fit .entries-fit .ensures) ∙ c .if1 .taken)
+    rw (sym (at-run-check .run-check .ensures) ∙ at-enum-told .enum-told .given .1)
+    (rw (sym (at-entries-fit .entries-fit .ensures) ∙ c .if1 .taken))
 
 returns-2 : tie.Need-returns-2
 unfolding runRefusal checkNumber
@@ -24,8 +24,8 @@ returns-3 c =
     let at-entries-fit = c .before in
     let at-enum-told = at-entries-fit .before in
     let at-run-check = at-enum-told .before .before in
-    rw
-    (sym (at-run-check .run-check .ensures) ∙ at-enum-told .enum-told .given .1, sym (at-entries-fit .entries-fit .ensures) ∙ c .if1 .left)
+    rw (sym (at-run-check .run-check .ensures) ∙ at-enum-told .enum-told .given .1)
+    (rw (sym (at-entries-fit .entries-fit .ensures) ∙ c .if1 .left))
 
 pub run-refusal-spec : {M : Type 1} → statement M
 run-refusal-spec =

@@ -1,3 +1,4 @@
+-- The loop keeps "the check from `at` on is the whole's"; a string is Entries.passed, the end Checks.at-end, anything else says nothing.
 use Prim.Native.Nat.{_≤_, _-_}
 use native.Mathlib.Omega.{arith}
 use mathlib.Core.Path.{_≡_, refl, sym, _∙_}
@@ -21,14 +22,14 @@ loop-holds : tie.Need-loop-holds Inv-loop μ-loop
 loop-holds c = (omega arith, refl)
 
 -- past a string: how far it reaches, and that the check goes on there
-past : (c : tie.After-known-told Inv-loop μ-loop)
-    → Passed (c .before .before .before .before .before .before .before .before .before .args .s .now) (c .before .before .before .before .before .before .before .loop .at) (c .before .end .given .0 .1 .0)
+past : (c : tie.After-known-told Inv-loop μ-loop) →
+    let at-loop = c .before .before .before .before .before .before .before in
+    Passed (at-loop .before .before .args .s .now) (at-loop .loop .at) (c .before .end .given .0 .1 .0)
 past c =
-    let at-start = c .before in
-    let p = at-start .before .before in
-    let l = p .before .before .before in
-    passed (l .before .before .before .args .s .now) (l .before .loop .at) (at-start .end .given .0 .0) (at-start .end .given .0 .1 .0)
-    (l .loop-test .taken) (p .before .if1 .left) (found-part _ _ _ (p .part-found .ensures) _ _ (at-start .end .given .1))
+    let at-part = c .before .before .before in
+    let at-turn = at-part .before .before .before in
+    let string = found-part _ _ _ (at-part .part-found .ensures) _ _ (c .before .end .given .1) in
+    passed _ _ _ _ (at-turn .loop-test .taken) (at-part .before .if1 .left) string
 
 loop-less : tie.Need-loop-less Inv-loop μ-loop
 loop-less c = let h = past c in omega arith

@@ -1,8 +1,11 @@
+-- The loop keeps "the entries from `at` on fit where all do"; an entry found is Elements.found-part, none Elements.found-none.
 use Rattle.wire_range.specs.Limits.{entriesFit}
 use Rattle.wire_message.specs.Message.{Bytes, entry, entries}
 use Rattle.wire_elements.proofs.Elements.{all-elements, found-none, found-part, found-in-bounds}
 use Rattle.wire_elements.specs.Elements.{elementsAt}
 use Rattle.wire_fields.specs.Items.{items}
+use Rattle.wire_fields.specs.Fields.{fieldsAt, firstOf}
+use Rattle.wire_fields.specs.declared.Found.the-variants as found
 use lib.ListN.{length}
 use mathlib.Core.List.{map}
 use Prim.Native.Nat.{_-_}
@@ -22,78 +25,42 @@ loop-holds : tie.Need-loop-holds Inv-loop μ-loop
 unfolding entries
 loop-holds c = rw (all-elements (c .before .args .number) (c .before .args .s .now))
 
+-- the entry that is found
+entry-found : (c : tie.After-start Inv-loop μ-loop) →
+    let at-loop = c .before .before .before in
+    let a = at-loop .before .before .args in
+    let read = c .start .given .0 in
+    firstOf (a .number) (fieldsAt (a .s .now) (at-loop .loop .at)) ≡ found.Part (read .0) (read .1 .0)
+entry-found c = sym (c .before .before .next-part .ensures) ∙ c .start .given .1
+
 sub-entry-fits : tie.Need-sub-entry-fits Inv-loop μ-loop
-sub-entry-fits c =
-    let at-start = c .before in
-    let at-next-part = at-start .before .before in
-    let at-loop = at-next-part .before in
-    let at-start' = at-loop .before .before in
-    found-in-bounds (at-start' .args .number) (at-start' .args .s .now) (at-loop .loop .at)
-    (sym (at-next-part .next-part .ensures) ∙ at-start .start .given .1) .1
-
-part-entry-fits-start : tie.Need-part-entry-fits-start Inv-loop μ-loop
-part-entry-fits-start c =
-    let at-start = c .before in
-    let at-next-part = at-start .before .before in
-    let at-loop = at-next-part .before in
-    let at-start' = at-loop .before .before in
-    let h = found-in-bounds (at-start' .args .number) (at-start' .args .s .now) (at-loop .loop .at)
-    (sym (at-next-part .next-part .ensures) ∙ at-start .start .given .1) in
-    omega arith
-
-part-entry-fits-end : tie.Need-part-entry-fits-end Inv-loop μ-loop
-part-entry-fits-end c =
-    let at-start = c .before in
-    let at-next-part = at-start .before .before in
-    let at-loop = at-next-part .before in
-    let at-start' = at-loop .before .before in
-    let h = found-in-bounds (at-start' .args .number) (at-start' .args .s .now) (at-loop .loop .at)
-    (sym (at-next-part .next-part .ensures) ∙ at-start .start .given .1) in
-    omega arith
+sub-entry-fits c = found-in-bounds _ _ _ (entry-found (c .before)) .1
 
 loop-less : tie.Need-loop-less Inv-loop μ-loop
-loop-less c =
-    let at-start = c .before .before .before .before in
-    let at-next-part = at-start .before .before in
-    let at-loop = at-next-part .before in
-    let at-start' = at-loop .before .before in
-    let h = found-in-bounds (at-start' .args .number) (at-start' .args .s .now) (at-loop .loop .at)
-    (sym (at-next-part .next-part .ensures) ∙ at-start .start .given .1) in
-    omega arith
+loop-less c = let in-bounds = found-in-bounds _ _ _ (entry-found (c .before .before .before .before)) in omega arith
 
 loop-again : tie.Need-loop-again Inv-loop μ-loop
 unfolding entriesFit
 loop-again c =
     let at-entry-fits = c .before in
-    let at-start = at-entry-fits .before .before .before in
-    let at-next-part = at-start .before .before in
-    let at-loop = at-next-part .before in
-    let at-start' = at-loop .before .before in
-    rw
-    (found-part (at-start' .args .number) (at-start' .args .s .now) (at-loop .loop .at) (sym (at-next-part .next-part .ensures) ∙ at-start .start .given .1), sym (at-entry-fits .entry-fits .ensures) ∙ c .if1 .taken)
-    at (at-loop .loop .inv)
+    let at-found = at-entry-fits .before .before .before in
+    let at-loop = at-found .before .before .before in
+    rw (found-part _ _ _ (entry-found at-found), sym (at-entry-fits .entry-fits .ensures) ∙ c .if1 .taken) at (at-loop .loop .inv)
 
 returns : tie.Need-returns Inv-loop μ-loop
 unfolding entriesFit
 returns c =
     let at-entry-fits = c .before in
-    let at-start = at-entry-fits .before .before .before in
-    let at-next-part = at-start .before .before in
-    let at-loop = at-next-part .before in
-    let at-start' = at-loop .before .before in
-    rw
-    (found-part (at-start' .args .number) (at-start' .args .s .now) (at-loop .loop .at) (sym (at-next-part .next-part .ensures) ∙ at-start .start .given .1), sym (at-entry-fits .entry-fits .ensures) ∙ c .if1 .left)
-    at (at-loop .loop .inv)
+    let at-found = at-entry-fits .before .before .before in
+    let at-loop = at-found .before .before .before in
+    rw (found-part _ _ _ (entry-found at-found), sym (at-entry-fits .entry-fits .ensures) ∙ c .if1 .left) at (at-loop .loop .inv)
 
 returns-2 : tie.Need-returns-2 Inv-loop μ-loop
 unfolding entriesFit
 returns-2 c =
     let at-next-part = c .before .before in
-    let at-loop = at-next-part .before in
-    let at-start = at-loop .before .before in
-    rw
-    (found-none (at-start .args .number) (at-start .args .s .now) (at-loop .loop .at)
-    (sym (at-next-part .next-part .ensures) ∙ c .enum-told .given .1)) at (at-loop .loop .inv)
+    let none = found-none _ _ _ (sym (at-next-part .next-part .ensures) ∙ c .enum-told .given .1) in
+    rw none at (at-next-part .before .loop .inv)
 
 pub entries-fit-spec : {M : Type 1} → statement M
 entries-fit-spec =
@@ -105,8 +72,8 @@ entries-fit-spec =
     (λ c κs. search needs)
     (λ c. search needs)
     sub-entry-fits
-    part-entry-fits-start
-    part-entry-fits-end
+    (λ c. let in-bounds = found-in-bounds _ _ _ (entry-found (c .before)) in omega arith)
+    (λ c. let in-bounds = found-in-bounds _ _ _ (entry-found (c .before)) in omega arith)
     (λ c κs. search needs)
     loop-less
     loop-again

@@ -1,3 +1,4 @@
+-- Both cases are the test of the key's length, by what length_in ensures; the value is value_is_set's contract.
 use Rattle.wire_range.specs.Limits.{entryFits}
 use Rattle.wire_message.specs.Message.{entry}
 use borrow.Author.Tests.{le-leb, lt-leb}

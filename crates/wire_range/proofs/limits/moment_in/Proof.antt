@@ -1,3 +1,4 @@
+-- moment_fits' contract, of the time that Meaning.time-means says the field is.
 use Rattle.wire_message.proofs.Meaning.{time-means}
 use mathlib.Core.Path.{_∙_}
 use borrow.Author.Needs.{needs}

@@ -1,3 +1,4 @@
+-- The number means what the item reads (Items.number-means), and its signed comparison is the unsigned one (Signs.up-to).
 use Rattle.wire_range.proofs.Signs.{up-to}
 use Rattle.wire_fields.proofs.Items.{number-means}
 use Rattle.wire_message.specs.Signed.{int32}

@@ -1,3 +1,4 @@
+-- Each case of what value_in answers is one of the definition `isSet`.
 use Rattle.wire_range.specs.Limits.{isSet}
 use Rattle.wire_message.specs.Places.{valueAt}
 use borrow.Author.Needs.{needs}

@@ -1,9 +1,10 @@
--- Follow.last-in-lies puts the last field within the message; each case of what last_in answers is one of the definition `timeFrom`.
+-- Follow.part-lies puts the last field within the message; each case of what last_in answers is one of the definition `timeFrom`.
 use native.Mathlib.Omega.{arith}
-use mathlib.Core.Path.{sym, subst, _∙_}
+use mathlib.Core.Path.{sym, _∙_}
 use Rattle.wire_walk_io.specs.Places.{timeFrom}
-use Rattle.wire_fields.specs.declared.Last.the-variants as last
-use Rattle.wire_fields.proofs.Follow.{LastInBounds, last-in-in-bounds}
+use lib.ListN.{length}
+use Prim.Native.Nat.{_≤_}
+use Rattle.wire_fields.proofs.Follow.{part-in-bounds}
 use borrow.Author.Needs.{needs}
 use Rattle.wire_walk_io.proofs.time.time_in.Statement.{statement}
 use Rattle.wire_walk_io.proofs.time.time_in.Tie as tie
@@ -11,12 +12,8 @@ use Rattle.wire_walk_io.proofs.time.time_in.Tie as tie
 -- where the last field lies that is a part
 inside : (c : tie.After-known-told) →
     let read = c .before .start .given .0 in
-    LastInBounds (c .before .before .before .before .before .args .s .now) (last.Part (read .0) (read .1 .0) (read .1 .1 .0))
-inside c =
-    let at-last = c .before .before .before in
-    let a = at-last .before .before .args in
-    let is = sym (at-last .last-in .ensures) ∙ c .before .start .given .1 in
-    subst (LastInBounds (a .s .now)) is (last-in-in-bounds (a .s .now) (a .number) (a .number))
+    (read .1 .0 ≤ read .1 .1 .0) × (read .1 .1 .0 ≤ length (c .before .before .before .before .before .args .s .now))
+inside c = part-in-bounds _ _ _ (c .before .before .before .last-in .ensures) (c .before .start .given .1)
 
 sub-t : tie.Need-sub-t
 sub-t c = inside c .0
