@@ -1,3 +1,4 @@
+-- Hands what `is_state` and `are_within` ensure to the two halves of `areSession`.
 use mathlib.Core.Path.{sym, _∙_}
 use Rattle.session_bytes.specs.Saved.{areSession}
 use borrow.Author.Needs.{needs}

@@ -1,3 +1,4 @@
+-- Hands the tests, in their order, to the contract's `both`, by `le-leb` and `lt-leb`.
 use borrow.Author.Tests.{le-leb, lt-leb}
 use Rattle.session_bytes.proofs.are_within.Statement.{statement}
 use Rattle.session_bytes.proofs.are_within.Tie as tie

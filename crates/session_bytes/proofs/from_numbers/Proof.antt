@@ -1,3 +1,4 @@
+-- Hands what `are_session` ensures to `fromNumbers`, and the session field by field from `state_of`, `without_mark` and `mark_of`.
 use mathlib.Core.Path.{sym, ap, _∙_}
 use Rattle.session_bytes.specs.Saved.{savedState, fromNumbers}
 use borrow.Author.Needs.{needs}

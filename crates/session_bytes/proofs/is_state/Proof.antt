@@ -1,3 +1,4 @@
+-- Hands the tests, in their order, to the contract's `pick`, by `le-leb` and `lt-leb`.
 use borrow.Author.Tests.{le-leb, lt-leb}
 use Rattle.session_bytes.proofs.is_state.Statement.{statement}
 use Rattle.session_bytes.proofs.is_state.Tie as tie

@@ -1,3 +1,4 @@
+-- Hands the five numbers of a slice of 40 bytes to `read`, and any other length to `unread`.
 use mathlib.Core.Path.{_∙_}
 use Rattle.session_bytes.proofs.Slices.{read, unread}
 use borrow.Author.Needs.{needs}

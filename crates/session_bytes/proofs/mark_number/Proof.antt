@@ -1,3 +1,4 @@
+-- Each arm hands the mark that it matched to `markNumber`.
 use Rattle.session_bytes.specs.Saved.{markNumber}
 use borrow.Author.Needs.{needs}
 use Rattle.session_bytes.proofs.mark_number.Statement.{statement}

@@ -1,3 +1,4 @@
+-- Hands the test against 8 to `savedMark`, by `le-leb` and `lt-leb`.
 use borrow.Author.Tests.{le-leb, lt-leb}
 use Rattle.session_bytes.specs.Saved.{savedMark}
 use Rattle.session_bytes.proofs.mark_of.Statement.{statement}

@@ -1,3 +1,4 @@
+-- Each arm hands the mark that it matched to `markPoint`.
 use Rattle.session_bytes.specs.Saved.{markPoint}
 use borrow.Author.Needs.{needs}
 use Rattle.session_bytes.proofs.mark_point.Statement.{statement}

@@ -1,3 +1,4 @@
+-- `number-most` bounds the first number; hands the five numbers to `wrote`, and a slice of another length to `unwritten`.
 use native.Mathlib.Omega.{arith}
 use mathlib.Core.Path.{sym, _∙_}
 use lib.ListN.{length}

@@ -1,3 +1,4 @@
+-- Each arm hands the state that it matched to `stateNumber`.
 use Rattle.session_bytes.specs.Saved.{stateNumber}
 use borrow.Author.Needs.{needs}
 use Rattle.session_bytes.proofs.state_number.Statement.{statement}

@@ -1,3 +1,4 @@
+-- Hands the tests, in their order, to `savedState`, by `eq-eqb` and `ne-eqb`.
 use borrow.Author.Tests.{eq-eqb, ne-eqb}
 use Rattle.session_bytes.specs.Saved.{savedState}
 use Rattle.session_bytes.proofs.state_of.Statement.{statement}

@@ -1,3 +1,4 @@
+-- Hands the test against 8 to the contract's `pick`, by `le-leb` and `lt-leb`.
 use borrow.Author.Tests.{le-leb, lt-leb}
 use Rattle.session_bytes.proofs.without_mark.Statement.{statement}
 use Rattle.session_bytes.proofs.without_mark.Tie as tie

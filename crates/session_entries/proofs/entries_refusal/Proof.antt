@@ -1,3 +1,4 @@
+-- Hands what `types_fit` and `missing_key` ensure to `entriesRefusal` and `namedKey`.
 use mathlib.Core.Path.{sym, _∙_}
 use borrow.Author.Tests.{ne-eqb}
 use Rattle.session_entries.specs.Required.{entriesRefusal}

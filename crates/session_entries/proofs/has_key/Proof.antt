@@ -1,3 +1,4 @@
+-- The key's part is in bounds by `span-in-bounds`, and is the entry's key by `bytes-means`.
 use Rattle.session_entries.specs.Required.{sameBytes, keyBytes}
 use Rattle.wire_message.specs.Message.{Bytes}
 use native.Mathlib.Omega.{arith}

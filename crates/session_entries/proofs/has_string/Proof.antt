@@ -1,3 +1,4 @@
+-- Each arm hands the value that it matched, and what `value_in` ensures, to `stringOrNone`.
 use Rattle.session_entries.specs.Required.{stringOrNone}
 use Rattle.wire_message.specs.Message.{entry}
 use Rattle.wire_message.specs.Places.{valueAt}

@@ -1,3 +1,4 @@
+-- `search tests` closes every branch: each number's key is the one that `keyBytes` names.
 use Rattle.session_entries.specs.Required.{keyBytes}
 use Rattle.base_laws.proofs.Tests.{tests}
 use borrow.Author.Needs.{needs}

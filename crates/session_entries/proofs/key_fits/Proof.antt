@@ -1,3 +1,4 @@
+-- Invariant: `fits` and the entries from `at` on give the last entry's answer. Hands an entry to `fits-next`, the end to `entries-none`, bounds to `found-in-bounds`.
 use Rattle.session_entries.proofs.Laws.{fits-next}
 use Prim.Native.Nat.{_-_}
 use native.Mathlib.Omega.{arith}

@@ -1,3 +1,4 @@
+-- Invariants: the entries from `at` on have key k as all of them do; the keys from k on decide `missing`. Hands over to `found-key`, `not-found` and `all-found`.
 use Prim.Native.Nat.{_-_, _≤_}
 use native.Mathlib.Omega.{arith}
 use mathlib.Core.Path.{_≡_, refl, sym, ap, _∙_}

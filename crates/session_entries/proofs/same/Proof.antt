@@ -1,3 +1,4 @@
+-- Invariant: the bytes from i on decide `sameBytes`. Hands the lengths to `same-length`, a pair of bytes to `same-step`, the end to `same-done`.
 use Prim.Native.Nat.{_-_, _≤_}
 use native.Mathlib.Omega.{arith}
 use mathlib.Core.Path.{_≡_, refl, sym, _∙_}

@@ -1,3 +1,4 @@
+-- Invariant: the keys from k on decide `typesFit`. Hands a key that fits to `type-fits`, one that does not to `type-other`, the end to `types-done`.
 use Prim.Native.Nat.{_-_, _≤_}
 use native.Mathlib.Omega.{arith}
 use mathlib.Core.Path.{_≡_, refl, sym, _∙_}

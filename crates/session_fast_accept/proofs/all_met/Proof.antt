@@ -1,3 +1,4 @@
+-- Hands the four flags, in their order, to `allMet`.
 use mathlib.Core.Path.{refl}
 use Rattle.session_fast_accept.specs.Summary.{allMet}
 use Rattle.session_fast_accept.proofs.all_met.Statement.{statement}

@@ -1,3 +1,4 @@
+-- Hands what `time_spec_in` ensures to `dateFits`, and the low 32 bits to `up-to`.
 use Prim.Native.Nat.{_%_}
 use mathlib.Core.Path.{sym, ap, _∙_}
 use lib.Dec.{lit≤}

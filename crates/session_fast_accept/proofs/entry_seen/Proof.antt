@@ -1,3 +1,4 @@
+-- Hands the form that `plain_entry` ensures, and what `string_seen` or `other_seen` ensures, to `by-value`; of `Other` nothing is claimed.
 use mathlib.Core.Path.{refl, subst}
 use Rattle.wire_check.specs.Entry.{Formed}
 use Rattle.wire_fields.specs.Fields.{among}

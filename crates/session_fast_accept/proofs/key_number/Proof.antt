@@ -1,3 +1,4 @@
+-- Hands the key that was met to `key-there`, none to `key-other`, with the keys of the other length by `key-length`; `key-is` gives the number.
 use native.Mathlib.Omega.{arith}
 use mathlib.Core.Path.{refl, sym, _∙_}
 use lib.Dec.{lit≤}

@@ -1,3 +1,4 @@
+-- Hands the key's length, by `length-part`, and the number 4 of `key_number` to `other-passes`; of `Other` nothing is claimed.
 use native.Mathlib.Omega.{arith}
 use mathlib.Core.Path.{sym, _∙_}
 use Rattle.base_laws.proofs.Parts.{length-part}

@@ -1,3 +1,4 @@
+-- Hands the key's length, by `length-part`, and what `key_number` and `with_key` ensure to `string-passes`; of `Other` nothing is claimed.
 use native.Mathlib.Omega.{arith}
 use Rattle.base_laws.proofs.Parts.{length-part}
 use Rattle.session_fast_accept.specs.Summary.{EntrySeen, KeySeen}

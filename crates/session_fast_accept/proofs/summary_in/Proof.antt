@@ -1,3 +1,4 @@
+-- Invariant: `Told`, what the fields before `at` show. Hands a field to `flagged`, `entered` or `dated`, the end to `finish`; of `Other` nothing is claimed.
 use Prim.Native.Nat.{_+_, _-_}
 use native.Mathlib.Omega.{arith}
 use mathlib.Core.Path.{refl, sym, subst, _∙_}

@@ -1,3 +1,4 @@
+-- Hands the tests, in their order, to `withKey`, by `ne-eqb` where all four fail.
 use mathlib.Core.Path.{refl}
 use borrow.Author.Tests.{ne-eqb}
 use Rattle.session_fast_accept.specs.Summary.{withKey}
