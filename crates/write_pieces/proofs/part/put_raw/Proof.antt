@@ -1,3 +1,4 @@
+-- A copy that fits is Puts.put-copy, over copy_into's contract.
 use borrow.Author.Needs.{needs}
 use Rattle.write_pieces.proofs.Puts.{put-copy}
 use Rattle.write_pieces.proofs.part.put_raw.Statement.{statement}
