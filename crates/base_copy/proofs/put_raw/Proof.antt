@@ -1,3 +1,4 @@
+-- A copy that fits is Puts.put-copy, over copy_into's contract.
 use borrow.Author.Needs.{needs}
 use Rattle.base_copy.proofs.Puts.{put-copy}
 use Rattle.base_copy.proofs.put_raw.Statement.{statement}

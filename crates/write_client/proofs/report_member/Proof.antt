@@ -1,3 +1,4 @@
+-- Both cases are the test of `reportMember`; the member's range is member_in's contract.
 use Rattle.write_message.specs.Fits.{reportMember}
 use borrow.Author.Tests.{eq-eqb, ne-eqb}
 use borrow.Author.Needs.{needs}

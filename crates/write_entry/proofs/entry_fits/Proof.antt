@@ -1,3 +1,4 @@
+-- Both tests are the definition's: Members.both-same.
 use Rattle.write_message.proofs.Members.{both-same}
 use lib.ListN.{length}
 use lib.Dec.{leb}

@@ -1,3 +1,4 @@
+-- Outcomes.same-outcome: the range (Members.both-same) and the bytes (same-wrapped) are the entry's; ends that fit are not bad.
 use Rattle.write_message.proofs.Outcomes.{same-outcome, same-wrapped}
 use Rattle.write_message.proofs.Members.{both-same, entry-small}
 use Rattle.write_message.specs.Fits.{endsFit}
@@ -16,11 +17,10 @@ write-message-requires c κs =
     let at-both = c .before .before .before .before .before .before .before in
     let at-ends-fit = at-both .before in
     let at-entry-fits = at-ends-fit .before in
-    let at-start = at-entry-fits .before .before .before .before .before in (
-      λ h. entry-small _ (at-start .args .key .now) (at-entry-fits .entry-fits .ensures)
-          (both-true _ (at-ends-fit .ends-fit .result) (sym (at-both .both .ensures) ∙ h) .0),
-      λ h. not-true _
-          (sym (at-ends-fit .ends-fit .ensures) ∙ both-true (at-entry-fits .entry-fits .result) _ (sym (at-both .both .ensures) ∙ h) .1),
+    let key = at-entry-fits .before .before .before .before .before .args .key .now in
+    let joint = sym (at-both .both .ensures) in (
+      λ h. entry-small _ key (at-entry-fits .entry-fits .ensures) (both-true _ (at-ends-fit .ends-fit .result) (joint ∙ h) .0),
+      λ h. not-true _ (sym (at-ends-fit .ends-fit .ensures) ∙ both-true (at-entry-fits .entry-fits .result) _ (joint ∙ h) .1),
     )
 
 returns : tie.Need-returns

@@ -1,3 +1,4 @@
+-- Outcomes.same-outcome: the range (Members.both-same) and the bytes (same-wrapped) are the exit's; Members.member-small bounds the member.
 use lib.Dec.{leb}
 use Rattle.write_forms.specs.Draft.{flag}
 use Rattle.write_message.proofs.Members.{member-small, both-same}

@@ -1,3 +1,4 @@
+-- Outcomes.same-outcome: the bytes (same-wrapped) are the list's; no ends are never bad.
 use Rattle.write_message.proofs.Outcomes.{same-outcome, same-wrapped}
 use Rattle.write_pieces.specs.Parts.{cover, around}
 use Rattle.write_forms.specs.Draft.{cutAt, badEnds}

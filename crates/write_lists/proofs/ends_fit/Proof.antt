@@ -1,3 +1,4 @@
+-- The loop keeps "the ends from i on are bad where all are"; a turn is Lists.ends-step, the end Lists.ends-done.
 use mathlib.Core.Bool.{true, not}
 use Rattle.write_lists.proofs.Lists.{ends-step, ends-done, not-not}
 use Rattle.write_forms.specs.Draft.{badEnds}
@@ -25,20 +26,18 @@ returns c =
     let at-loop = at-turn .before in
     let a = at-loop .before .args in
     let l = at-loop .loop in
-    let e : badEnds (a .size) (l .a) (drop (l .i) (a .ends .now)) ≡ true = ends-step (a .size) (l .a) (a .ends .now) (l .i)
-    (at-turn .loop-test .taken)
-    ∙ rw (lt-ltb _ _ (c .if1 .taken)) in
-    sym (ap not (sym (l .inv .1) ∙ e))
+    let step = ends-step (a .size) (l .a) (a .ends .now) (l .i) (at-turn .loop-test .taken) in
+    let bad : badEnds (a .size) (l .a) (drop (l .i) (a .ends .now)) ≡ true = step ∙ rw (lt-ltb _ _ (c .if1 .taken)) in
+    sym (ap not (sym (l .inv .1) ∙ bad))
 
 loop-again : tie.Need-loop-again Inv-loop μ-loop
 loop-again c =
     let at-turn = c .before .before in
     let at-loop = at-turn .before in
     let a = at-loop .before .args in
-    let l = at-loop .loop in (
-      omega arith,
-      sym (rw (le-ltb _ _ (c .if1 .left)) at (ends-step (a .size) (l .a) (a .ends .now) (l .i) (at-turn .loop-test .taken))) ∙ l .inv .1,
-    )
+    let l = at-loop .loop in
+    let step = ends-step (a .size) (l .a) (a .ends .now) (l .i) (at-turn .loop-test .taken) in
+    (omega arith, sym (rw (le-ltb _ _ (c .if1 .left)) at step) ∙ l .inv .1)
 
 returns-2 : tie.Need-returns-2 Inv-loop μ-loop
 returns-2 c =

@@ -1,3 +1,4 @@
+-- No numbers are Lengths.like-none, any other Lengths.like-text over len_packed's contract.
 use Rattle.write_pieces.proofs.Lengths.{like-none, like-text}
 use native.Mathlib.Omega.{arith}
 use borrow.Author.Needs.{needs}

@@ -1,3 +1,4 @@
+-- The loop keeps Lists.Listed: what is put, with the elements from i on behind it, is the list; a turn is listed-more, the end listed-end.
 use Rattle.write_lists.proofs.Lists.{Listed, listed-room, listed-more, listed-end, elementsFrom, next-end}
 use Rattle.base_copy.proofs.Puts.{fill-start}
 use Rattle.base_laws.proofs.Parts.{length-part}
@@ -17,11 +18,9 @@ abbrev μ-loop : tie.MeasureT-loop
 loop-holds : tie.Need-loop-holds Inv-loop μ-loop
 loop-holds c =
     let at-start = c .before .before .before in
-    let a = at-start .args in (
-      search needs,
-      record
-          { good = at-start .pre .0; filling = fill-start (a .out .now) (a .at) (elementsFrom (a .f) (a .joined .now) (a .ends .now) 0 0) },
-    )
+    let a = at-start .args in
+    let filling = fill-start (a .out .now) (a .at) (elementsFrom (a .f) (a .joined .now) (a .ends .now) 0 0) in
+    (search needs, record { good = at-start .pre .0; filling = filling })
 
 sub-put-head : tie.Need-sub-put-head Inv-loop μ-loop
 sub-put-head c = omega (arith, next-end (c .before .before .before .loop .inv .1 .good) (c .before .before .loop-test .taken) .up)
@@ -60,8 +59,8 @@ put-raw-requires c κs =
     let at-start = at-loop .before .before .before .before in
     let l = at-loop .loop in
     let n = next-end (l .inv .1 .good) (at-turn .loop-test .taken) in
-    omega
-    (arith, listed-room (l .inv .1) (at-turn .loop-test .taken) (at-start .pre .1), length-part (at-start .args .joined .now) (l .a) (getD (at-start .args .ends .now) (l .i) 0) (n .up) (n .within))
+    let part-length = length-part (at-start .args .joined .now) (l .a) (getD (at-start .args .ends .now) (l .i) 0) (n .up) (n .within) in
+    omega (arith, listed-room (l .inv .1) (at-turn .loop-test .taken) (at-start .pre .1), part-length)
 
 loop-again : tie.Need-loop-again Inv-loop μ-loop
 loop-again c =

@@ -1,3 +1,4 @@
+-- Where the length is exact (Lengths.like-within) no numbers put nothing, and any other are head and packed bytes, Fields.text-some.
 use Rattle.write_pieces.proofs.Lengths.{like-within}
 use Rattle.write_pieces.proofs.Fields.{text-none, text-some, length-text}
 use Rattle.base_copy.proofs.Puts.{nothing, puts}

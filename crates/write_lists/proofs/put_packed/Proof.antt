@@ -1,3 +1,4 @@
+-- The loop keeps Puts.Filling: what is put, with the numbers from i on behind it, is all; a turn is fill-more, the end fill-end.
 use Rattle.write_forms.specs.Pieces.{varint, packed}
 use lib.ListN.{length, drop, getD}
 use Rattle.write_lists.proofs.Packed.{next-number, no-number}

@@ -1,3 +1,4 @@
+-- Each case of the tag is one of `entryAt`, by what tag_at ensures; the value is payload_at's contract.
 use Rattle.write_forms.specs.Run.{entryOf, entryAt}
 use borrow.Author.Tests.{eq-eqb, ne-eqb}
 use mathlib.Core.Path.{sym, _∙_}
@@ -11,10 +12,8 @@ returns c =
     let at-if2 = c .before in
     let at-if1 = at-if2 .before in
     let at-number = at-if1 .before .before in
-    let at-tag-at = at-number .before .before in
-    rw (sym (at-tag-at .tag-at .ensures) ∙ at-number .number .given .1, eq-eqb _ _ (at-if1 .if1 .taken))
-    (rw (eq-eqb _ _ (at-if2 .if2 .taken))
-    (c .payload-at .ensures))
+    let tagged = sym (at-number .before .before .tag-at .ensures) ∙ at-number .number .given .1 in
+    rw (tagged, eq-eqb _ _ (at-if1 .if1 .taken), eq-eqb _ _ (at-if2 .if2 .taken)) (c .payload-at .ensures)
 
 returns-2 : tie.Need-returns-2
 unfolding entryAt entryOf

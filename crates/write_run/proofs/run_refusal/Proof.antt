@@ -1,3 +1,4 @@
+-- Each case of the check, then of entries_fit, is one of `runRefusal`.
 use Rattle.write_forms.specs.Run.{runRefusal}
 use Rattle.wire.specs.Read.{checkNumber}
 use mathlib.Core.Path.{sym, _∙_}
@@ -8,11 +9,10 @@ use Rattle.write_run.proofs.run_refusal.Tie as tie
 returns : tie.Need-returns
 unfolding runRefusal checkNumber
 returns c =
-    let at-entries-fit = c .before in
-    let at-enum-told = at-entries-fit .before in
-    let at-run-check = at-enum-told .before .before in
-    rw (sym (at-run-check .run-check .ensures) ∙ at-enum-told .enum-told .given .1)
-    (rw (sym (at-entries-fit .entries-fit .ensures) ∙ c .if1 .taken))
+    let at-entries = c .before in
+    let at-told = at-entries .before in
+    let fine = sym (at-told .before .before .run-check .ensures) ∙ at-told .enum-told .given .1 in
+    rw (fine, sym (at-entries .entries-fit .ensures) ∙ c .if1 .taken)
 
 returns-2 : tie.Need-returns-2
 unfolding runRefusal checkNumber
@@ -21,11 +21,10 @@ returns-2 c = rw (sym (c .before .before .before .run-check .ensures) ∙ c .bef
 returns-3 : tie.Need-returns-3
 unfolding runRefusal checkNumber
 returns-3 c =
-    let at-entries-fit = c .before in
-    let at-enum-told = at-entries-fit .before in
-    let at-run-check = at-enum-told .before .before in
-    rw (sym (at-run-check .run-check .ensures) ∙ at-enum-told .enum-told .given .1)
-    (rw (sym (at-entries-fit .entries-fit .ensures) ∙ c .if1 .left))
+    let at-entries = c .before in
+    let at-told = at-entries .before in
+    let fine = sym (at-told .before .before .run-check .ensures) ∙ at-told .enum-told .given .1 in
+    rw (fine, sym (at-entries .entries-fit .ensures) ∙ c .if1 .left)
 
 pub run-refusal-spec : {M : Type 1} → statement M
 run-refusal-spec =

@@ -1,3 +1,4 @@
+-- Both cases are the test of `timeFits`, with moment_fits' contract put in for its test.
 use borrow.Author.Tests.{ne-eqb}
 use Rattle.base_laws.proofs.Tests.{tests}
 use Rattle.write_message.specs.Fits.{timeFits}

@@ -1,3 +1,4 @@
+-- Outcomes.same-outcome: a note is the member's bytes themselves, Outcomes.same-note, for the members that Members.note-member tells.
 use Rattle.write_message.proofs.Outcomes.{same-outcome, same-note}
 use Rattle.write_message.proofs.Members.{note-member}
 use Rattle.write_pieces.specs.Parts.{cover, around}
@@ -20,10 +21,9 @@ returns c =
     let at-write-plain = c .before .before in
     let at-listed = at-write-plain .before .before .before .before .before .before in
     let at-both = at-listed .before in
-    let at-start = at-both .before .before .before in
+    let a = at-both .before .before .before .args in
     same-outcome (at-write-plain .write-plain .ensures) _ _ _ refl (at-both .both .ensures)
-    (λ h. let m = note-member (at-start .args .member) refl h in rw (at-listed .listed .ensures)
-    (same-note (at-start .args .member) _ (at-start .args .note .now) (λ z. omega arith) refl))
+    (λ h. let m = note-member (a .member) refl h in rw (at-listed .listed .ensures) (same-note (a .member) _ (a .note .now) (λ z. omega arith) refl))
 
 pub write-note-spec : {M : Type 1} → statement M
 write-note-spec =

@@ -1,3 +1,4 @@
+-- Outcomes.same-outcome: the range (Members.both-same) and the bytes (same-wrapped) are the hello's; ends that fit are not bad.
 use Rattle.write_message.proofs.Outcomes.{same-outcome, same-wrapped}
 use Rattle.write_message.proofs.Members.{member-small, both-same}
 use Rattle.write_message.specs.Fits.{endsFit}
@@ -17,11 +18,10 @@ write-message-requires : tie.Need-write-message-requires
 write-message-requires c κs =
     let at-both = c .before .before .before .before .before .before .before in
     let at-ends-fit = at-both .before in
-    let at-member-in = at-ends-fit .before in (
-      λ h. member-small 1 1 _ (omega arith) (at-member-in .member-in .ensures)
-          (both-true _ (at-ends-fit .ends-fit .result) (sym (at-both .both .ensures) ∙ h) .0),
-      λ h. not-true _
-          (sym (at-ends-fit .ends-fit .ensures) ∙ both-true (at-member-in .member-in .result) _ (sym (at-both .both .ensures) ∙ h) .1),
+    let at-member-in = at-ends-fit .before in
+    let joint = sym (at-both .both .ensures) in (
+      λ h. member-small 1 1 _ (omega arith) (at-member-in .member-in .ensures) (both-true _ (at-ends-fit .ends-fit .result) (joint ∙ h) .0),
+      λ h. not-true _ (sym (at-ends-fit .ends-fit .ensures) ∙ both-true (at-member-in .member-in .result) _ (joint ∙ h) .1),
     )
 
 returns : tie.Need-returns
@@ -33,11 +33,11 @@ returns c =
     let at-both = at-flag .before in
     let at-ends-fit = at-both .before in
     let at-member-in = at-ends-fit .before in
-    let at-start = at-member-in .before .before .before .before .before .before in
+    let a = at-member-in .before .before .before .before .before .before .args in
+    let list = elements 3 (cutAt (a .joined .now) 0 (a .ends .now)) in
     same-outcome (at-write-message .write-message .ensures) _ _ _ refl
     (both-same (at-both .both .ensures) (at-member-in .member-in .ensures) (at-ends-fit .ends-fit .ensures))
-    (λ h. rw (at-listed .listed .ensures, at-flag .flag .ensures)
-    (same-wrapped _ _ _ (rw (append-nil (elements 3 (cutAt (at-start .args .joined .now) 0 (at-start .args .ends .now)))))))
+    (λ h. rw (at-listed .listed .ensures, at-flag .flag .ensures) (same-wrapped _ _ _ (rw (append-nil list))))
 
 pub write-server-hello-spec : {M : Type 1} → statement M
 write-server-hello-spec =

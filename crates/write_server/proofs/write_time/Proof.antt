@@ -1,3 +1,4 @@
+-- Outcomes.same-outcome: the range is time_fits', the bytes (same-wrapped) are the point's; Members.time-small bounds the member.
 use Rattle.write_message.proofs.Outcomes.{same-outcome, same-wrapped}
 use Rattle.write_message.proofs.Members.{time-small}
 use Rattle.write_pieces.specs.Parts.{cover, around}

@@ -1,3 +1,4 @@
+-- A number left out has no bytes, Fields.number-out; any other is Fields.length-number.
 use Rattle.write_pieces.proofs.Fields.{number-out, length-number}
 use native.Mathlib.Omega.{arith}
 use borrow.Author.Needs.{needs}

@@ -1,3 +1,4 @@
+-- The loop keeps Varints.Counting: n bytes are counted, those of x are still to count; a turn is count-more, the end count-end.
 use native.Mathlib.Omega.{arith}
 use borrow.Author.Needs.{needs}
 use Rattle.write_pieces.proofs.Varints.{length-varint, Counting, count-start, count-more, count-end}

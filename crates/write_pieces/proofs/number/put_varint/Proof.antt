@@ -1,3 +1,4 @@
+-- The loop keeps Varints.Putting: the bytes of v up to i are put, those of x are left; a turn is put-more, the end put-end.
 use native.Mathlib.Omega.{arith}
 use borrow.Author.Needs.{needs}
 use Rattle.write_pieces.proofs.Varints.{Putting, put-start, put-room, put-more, put-end}

@@ -1,3 +1,4 @@
+-- Field 0 is no cover, Fields.cover-none; any other is its head, Fields.cover-some.
 use Rattle.write_pieces.proofs.Fields.{cover-none, cover-some}
 use borrow.Author.Needs.{needs}
 use Rattle.write_pieces.proofs.part.len_cover.Statement.{statement}

@@ -1,3 +1,4 @@
+-- Both cases are the test of the definition `front`.
 use borrow.Author.Needs.{needs}
 use Rattle.write_forms.specs.Pieces.{front}
 use Rattle.write_pieces.proofs.part.len_front.Statement.{statement}

@@ -1,3 +1,4 @@
+-- The tag's length and the length's length add up: Fields.length-head.
 use Rattle.write_pieces.proofs.Fields.{length-head}
 use native.Mathlib.Omega.{arith}
 use borrow.Author.Needs.{needs}

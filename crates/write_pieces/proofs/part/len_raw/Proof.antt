@@ -1,3 +1,4 @@
+-- Bytes beyond a message are `beyond`, all others `exact`.
 use mathlib.Core.Path.{refl}
 use native.Mathlib.Omega.{arith}
 use Rattle.write_pieces.specs.Parts.{exact, beyond}

@@ -1,3 +1,4 @@
+-- The two numbers' lengths add up: Fields.length-stamp.
 use Rattle.write_pieces.proofs.Fields.{length-stamp}
 use Rattle.write_pieces.specs.Parts.{stamp}
 use native.Mathlib.Omega.{arith}

@@ -1,3 +1,4 @@
+-- Bytes beyond a message are beyond by Fields.text-least; none is Fields.text-none, any other Fields.length-text.
 use Rattle.write_pieces.proofs.Fields.{text-least, text-none, length-text}
 use Rattle.write_pieces.specs.Parts.{exact, beyond}
 use native.Mathlib.Omega.{arith}

@@ -1,3 +1,4 @@
+-- A framed message puts the four bytes of its length, put_raw's contract; any other puts nothing, Puts.nothing.
 use native.Mathlib.Omega.{arith}
 use borrow.Author.Needs.{needs}
 use Rattle.write_forms.specs.Pieces.{front}
