@@ -1,8 +1,8 @@
+-- The loop keeps the bytes at hand within the window and the three buffers' lengths; a frame within them is turn's FrameWithin, cut by Parts.length-part.
 use Rattle.replay_window.specs.Window.{FrameWithin}
 use Rattle.base_laws.proofs.Parts.{length-part}
 use Rattle.base_laws.specs.Base.{part}
 use lib.Seq.{length-take-le}
--- The invariant: the bytes at hand, from one place up to another, lie in the window, and the three buffers keep their lengths.
 use Prim.Native.Nat.{_≤_}
 use mathlib.Core.Path.{_≡_, sym, subst}
 use native.Mathlib.Omega.{arith}
@@ -51,9 +51,7 @@ loop-again c =
     (omega arith, w .inv .1, w .inv .2, omega arith, omega arith)
 
 add-held : tie.Need-add-held Inv-loop μ-loop
-add-held c =
-    let at-start = c .before .before .before .before .before .before .before .before .before .before .before .before .before .before .before .before .before .before .before .before .before .before .before .before .before .before .before .before .before .before in
-    omega (arith, at-start .good .0 .0)
+add-held c = omega (arith, c .before .before .before .before .before .before .before .before .before .before .before .before .before .before .before .before .before .before .before .before .before .before .before .before .before .before .before .before .before .before .good .0 .0)
 
 pub run-spec : {M : Type 1} → statement M
 run-spec =
