@@ -20,7 +20,8 @@ use Rattle.file_format.proofs.Restarts.{keep-total}
 use Rattle.session_turn.specs.Turn.{turn}
 use Rattle.session_turn.specs.declared.Turn.{Turn}
 use Rattle.session_turn.specs.declared.Turn.the-variants.{To, NotNow}
-use Rattle.session.specs.Step.{Outcome, moment, acceptRecord, inState, grown, withinArea, lengthsFit, growthRefusal, refuse, roomFor, timed, entriesFirst, acceptStored, onAccept, onReject, exitStored, onExit, resumed, byKind, ofRecords, onRestart, act, inTurn, onReading, step}
+use Rattle.session.specs.Step.{Outcome, moment, acceptRecord, inState, grown, withinArea, lengthsFit, growthRefusal, refuse, roomFor, timed}
+use Rattle.session.specs.Step.{entriesFirst, acceptStored, onAccept, onReject, exitStored, onExit, resumed, byKind, ofRecords, onRestart, act, inTurn, onReading, step}
 use Rattle.session.proofs.Moments.{moment-most, point-fits}
 use Rattle.session.proofs.Lengths.{within-area, lengths}
 use Rattle.session.proofs.Timed.{growth-fits}

@@ -12,10 +12,17 @@ add-lay-five : tie.Need-add-lay-five
 add-lay-five c = let se = c .before .before .before .before .before .args .se in omega (arith, number-most (se .state) (se .mark) _ _ (c .before .state-number .ensures) (c .mark-number .ensures))
 
 returns : tie.Need-returns
-returns c = let a = c .before .before .before .before .before .before .before .before .before .args in
-    let h = c .before .before .before .before .before .before .before .if1 .taken in (
-      c .before .before .lay-five .ensures .0 ∙ le-leb 40 (length (a .slice .now)) (omega arith) ∙ sym (eq-eqb (length (a .slice .now)) 40 h),
-      wrote (a .se) (a .slice .now) h _ _ _ _ (c .before .before .before .before .before .state-number .ensures) (c .before .before .before .before .mark-number .ensures) (c .before .before .before .mark-point .ensures) (c .before .before .lay-five .ensures .1),
+returns c =
+    let at-lay = c .before .before in
+    let at-point = at-lay .before in
+    let at-mark = at-point .before in
+    let at-state = at-mark .before in
+    let at-if1 = at-state .before .before in
+    let a = at-if1 .before .before .args in
+    let h = at-if1 .if1 .taken in
+    let laid = at-lay .lay-five .ensures in (
+      laid .0 ∙ le-leb 40 (length (a .slice .now)) (omega arith) ∙ sym (eq-eqb (length (a .slice .now)) 40 h),
+      wrote (a .se) (a .slice .now) h _ _ _ _ (at-state .state-number .ensures) (at-mark .mark-number .ensures) (at-point .mark-point .ensures) (laid .1),
     )
 
 returns-2 : tie.Need-returns-2

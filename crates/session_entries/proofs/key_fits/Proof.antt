@@ -23,58 +23,113 @@ loop-holds : tie.Need-loop-holds Inv-loop μ-loop
 loop-holds c = let a = c .before .args in rw (all-entries (a .field) (a .s .now)) (fits-all (a .k) (entries (a .field) (items (a .s .now))))
 
 sub-has-key : tie.Need-sub-has-key Inv-loop μ-loop
-sub-has-key c = let a = c .before .before .before .before .before .before .args in
-    found-in-bounds (a .field) (a .s .now) (c .before .before .before .before .loop .at) (sym (c .before .before .before .next-part .ensures) ∙ c .before .start .given .1) .1
+sub-has-key c =
+    let at-start = c .before in
+    let at-next = at-start .before .before in
+    let at-loop = at-next .before in
+    let a = at-loop .before .before .args in
+    let found = sym (at-next .next-part .ensures) ∙ at-start .start .given .1 in
+    found-in-bounds (a .field) (a .s .now) (at-loop .loop .at) found .1
 
 part-has-key-start : tie.Need-part-has-key-start Inv-loop μ-loop
-part-has-key-start c = let a = c .before .before .before .before .before .before .args in
-    let h = found-in-bounds (a .field) (a .s .now) (c .before .before .before .before .loop .at) (sym (c .before .before .before .next-part .ensures) ∙ c .before .start .given .1) in
+part-has-key-start c =
+    let at-start = c .before in
+    let at-next = at-start .before .before in
+    let at-loop = at-next .before in
+    let a = at-loop .before .before .args in
+    let found = sym (at-next .next-part .ensures) ∙ at-start .start .given .1 in
+    let h = found-in-bounds (a .field) (a .s .now) (at-loop .loop .at) found in
     omega arith
 
 part-has-key-end : tie.Need-part-has-key-end Inv-loop μ-loop
-part-has-key-end c = let a = c .before .before .before .before .before .before .args in
-    let h = found-in-bounds (a .field) (a .s .now) (c .before .before .before .before .loop .at) (sym (c .before .before .before .next-part .ensures) ∙ c .before .start .given .1) in
+part-has-key-end c =
+    let at-start = c .before in
+    let at-next = at-start .before .before in
+    let at-loop = at-next .before in
+    let a = at-loop .before .before .args in
+    let found = sym (at-next .next-part .ensures) ∙ at-start .start .given .1 in
+    let h = found-in-bounds (a .field) (a .s .now) (at-loop .loop .at) found in
     omega arith
 
 sub-has-string : tie.Need-sub-has-string Inv-loop μ-loop
-sub-has-string c = let a = c .before .before .before .before .before .before .before .before .before .args in
-    found-in-bounds (a .field) (a .s .now) (c .before .before .before .before .before .before .before .loop .at) (sym (c .before .before .before .before .before .before .next-part .ensures) ∙ c .before .before .before .before .start .given .1) .1
+sub-has-string c =
+    let at-start = c .before .before .before .before in
+    let at-next = at-start .before .before in
+    let at-loop = at-next .before in
+    let a = at-loop .before .before .args in
+    let found = sym (at-next .next-part .ensures) ∙ at-start .start .given .1 in
+    found-in-bounds (a .field) (a .s .now) (at-loop .loop .at) found .1
 
 part-has-string-start : tie.Need-part-has-string-start Inv-loop μ-loop
-part-has-string-start c = let a = c .before .before .before .before .before .before .before .before .before .args in
-    let h = found-in-bounds (a .field) (a .s .now) (c .before .before .before .before .before .before .before .loop .at) (sym (c .before .before .before .before .before .before .next-part .ensures) ∙ c .before .before .before .before .start .given .1) in
+part-has-string-start c =
+    let at-start = c .before .before .before .before in
+    let at-next = at-start .before .before in
+    let at-loop = at-next .before in
+    let a = at-loop .before .before .args in
+    let found = sym (at-next .next-part .ensures) ∙ at-start .start .given .1 in
+    let h = found-in-bounds (a .field) (a .s .now) (at-loop .loop .at) found in
     omega arith
 
 part-has-string-end : tie.Need-part-has-string-end Inv-loop μ-loop
-part-has-string-end c = let a = c .before .before .before .before .before .before .before .before .before .args in
-    let h = found-in-bounds (a .field) (a .s .now) (c .before .before .before .before .before .before .before .loop .at) (sym (c .before .before .before .before .before .before .next-part .ensures) ∙ c .before .before .before .before .start .given .1) in
+part-has-string-end c =
+    let at-start = c .before .before .before .before in
+    let at-next = at-start .before .before in
+    let at-loop = at-next .before in
+    let a = at-loop .before .before .args in
+    let found = sym (at-next .next-part .ensures) ∙ at-start .start .given .1 in
+    let h = found-in-bounds (a .field) (a .s .now) (at-loop .loop .at) found in
     omega arith
 
 loop-less : tie.Need-loop-less Inv-loop μ-loop
-loop-less c = let a = c .before .before .before .before .before .before .before .before .before .before .before .args in
-    let h = found-in-bounds (a .field) (a .s .now) (c .before .before .before .before .before .before .before .before .before .loop .at) (sym (c .before .before .before .before .before .before .before .before .next-part .ensures) ∙ c .before .before .before .before .before .before .start .given .1) in
+loop-less c =
+    let at-start = c .before .before .before .before .before .before in
+    let at-next = at-start .before .before in
+    let at-loop = at-next .before in
+    let a = at-loop .before .before .args in
+    let found = sym (at-next .next-part .ensures) ∙ at-start .start .given .1 in
+    let h = found-in-bounds (a .field) (a .s .now) (at-loop .loop .at) found in
     omega arith
 
 loop-again : tie.Need-loop-again Inv-loop μ-loop
-loop-again c = let a = c .before .before .before .before .before .before .before .before .before .before .before .args in
-    let l = c .before .before .before .before .before .before .before .before .before .loop in
-    rw (c .has-string .ensures)
-    (sym (fits-next (a .k) (l .fits) _ (a .field) (a .s .now) (l .at) (sym (c .before .before .before .before .before .before .before .before .next-part .ensures) ∙ c .before .before .before .before .before .before .start .given .1) (sym (c .before .before .before .has-key .ensures) ∙ c .before .before .if1 .taken)) ∙ l .inv)
+loop-again c =
+    let at-start = c .before .before .before .before .before .before in
+    let at-next = at-start .before .before in
+    let at-loop = at-next .before in
+    let a = at-loop .before .before .args in
+    let found = sym (at-next .next-part .ensures) ∙ at-start .start .given .1 in
+    let l = at-loop .loop in
+    let its-key = sym (c .before .before .before .has-key .ensures) ∙ c .before .before .if1 .taken in
+    rw (c .has-string .ensures) (sym (fits-next (a .k) (l .fits) _ (a .field) (a .s .now) (l .at) found its-key) ∙ l .inv)
 
 loop-less-2 : tie.Need-loop-less-2 Inv-loop μ-loop
-loop-less-2 c = let a = c .before .before .before .before .before .before .before .before .before .args in
-    let h = found-in-bounds (a .field) (a .s .now) (c .before .before .before .before .before .before .before .loop .at) (sym (c .before .before .before .before .before .before .next-part .ensures) ∙ c .before .before .before .before .start .given .1) in
+loop-less-2 c =
+    let at-start = c .before .before .before .before in
+    let at-next = at-start .before .before in
+    let at-loop = at-next .before in
+    let a = at-loop .before .before .args in
+    let found = sym (at-next .next-part .ensures) ∙ at-start .start .given .1 in
+    let h = found-in-bounds (a .field) (a .s .now) (at-loop .loop .at) found in
     omega arith
 
 loop-again-2 : tie.Need-loop-again-2 Inv-loop μ-loop
-loop-again-2 c = let a = c .before .before .before .before .before .before .before .before .before .args in
-    let l = c .before .before .before .before .before .before .before .loop in
-    sym (fits-next (a .k) (l .fits) _ (a .field) (a .s .now) (l .at) (sym (c .before .before .before .before .before .before .next-part .ensures) ∙ c .before .before .before .before .start .given .1) (sym (c .before .has-key .ensures) ∙ c .if1 .left)) ∙ l .inv
+loop-again-2 c =
+    let at-start = c .before .before .before .before in
+    let at-next = at-start .before .before in
+    let at-loop = at-next .before in
+    let a = at-loop .before .before .args in
+    let found = sym (at-next .next-part .ensures) ∙ at-start .start .given .1 in
+    let l = at-loop .loop in
+    let another = sym (c .before .has-key .ensures) ∙ c .if1 .left in
+    sym (fits-next (a .k) (l .fits) _ (a .field) (a .s .now) (l .at) found another) ∙ l .inv
 
 returns : tie.Need-returns Inv-loop μ-loop
 unfolding fitsFrom
-returns c = let a = c .before .before .before .before .before .args in
-    rw (entries-none (a .field) (a .s .now) (c .before .before .before .loop .at) (sym (c .before .before .next-part .ensures) ∙ c .enum-told .given .1)) at (c .before .before .before .loop .inv)
+returns c =
+    let at-next = c .before .before in
+    let at-loop = at-next .before in
+    let a = at-loop .before .before .args in
+    let none = sym (at-next .next-part .ensures) ∙ c .enum-told .given .1 in
+    rw (entries-none (a .field) (a .s .now) (at-loop .loop .at) none) at (at-loop .loop .inv)
 
 pub key-fits-spec : {M : Type 1} → statement M
 key-fits-spec =

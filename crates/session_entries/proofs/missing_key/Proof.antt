@@ -32,38 +32,69 @@ loop-holds : tie.Need-loop-holds Inv-loop μ-loop Inv-keys μ-keys
 loop-holds c = let a = c .before .before .before .args in ap (has (c .before .keys .k)) (all-entries (a .field) (a .s .now))
 
 sub-has-key : tie.Need-sub-has-key Inv-loop μ-loop Inv-keys μ-keys
-sub-has-key c = let a = c .before .before .before .before .before .before .before .before .args in
-    found-in-bounds (a .field) (a .s .now) (c .before .before .before .before .loop .at) (sym (c .before .before .before .next-part .ensures) ∙ c .before .start .given .1) .1
+sub-has-key c =
+    let at-start = c .before in
+    let at-next = at-start .before .before in
+    let at-loop = at-next .before in
+    let a = at-loop .before .before .before .before .args in
+    let found = sym (at-next .next-part .ensures) ∙ at-start .start .given .1 in
+    found-in-bounds (a .field) (a .s .now) (at-loop .loop .at) found .1
 
 part-has-key-start : tie.Need-part-has-key-start Inv-loop μ-loop Inv-keys μ-keys
-part-has-key-start c = let a = c .before .before .before .before .before .before .before .before .args in
-    let h = found-in-bounds (a .field) (a .s .now) (c .before .before .before .before .loop .at) (sym (c .before .before .before .next-part .ensures) ∙ c .before .start .given .1) in
+part-has-key-start c =
+    let at-start = c .before in
+    let at-next = at-start .before .before in
+    let at-loop = at-next .before in
+    let a = at-loop .before .before .before .before .args in
+    let found = sym (at-next .next-part .ensures) ∙ at-start .start .given .1 in
+    let h = found-in-bounds (a .field) (a .s .now) (at-loop .loop .at) found in
     omega arith
 
 part-has-key-end : tie.Need-part-has-key-end Inv-loop μ-loop Inv-keys μ-keys
-part-has-key-end c = let a = c .before .before .before .before .before .before .before .before .args in
-    let h = found-in-bounds (a .field) (a .s .now) (c .before .before .before .before .loop .at) (sym (c .before .before .before .next-part .ensures) ∙ c .before .start .given .1) in
+part-has-key-end c =
+    let at-start = c .before in
+    let at-next = at-start .before .before in
+    let at-loop = at-next .before in
+    let a = at-loop .before .before .before .before .args in
+    let found = sym (at-next .next-part .ensures) ∙ at-start .start .given .1 in
+    let h = found-in-bounds (a .field) (a .s .now) (at-loop .loop .at) found in
     omega arith
 
 loop-less : tie.Need-loop-less Inv-loop μ-loop Inv-keys μ-keys
-loop-less c = let a = c .before .before .before .before .before .before .before .before .before .before .before .args in
-    let h = found-in-bounds (a .field) (a .s .now) (c .before .before .before .before .before .before .before .loop .at) (sym (c .before .before .before .before .before .before .next-part .ensures) ∙ c .before .before .before .before .start .given .1) in
+loop-less c =
+    let at-start = c .before .before .before .before in
+    let at-next = at-start .before .before in
+    let at-loop = at-next .before in
+    let a = at-loop .before .before .before .before .args in
+    let found = sym (at-next .next-part .ensures) ∙ at-start .start .given .1 in
+    let h = found-in-bounds (a .field) (a .s .now) (at-loop .loop .at) found in
     omega arith
 
 loop-again : tie.Need-loop-again Inv-loop μ-loop Inv-keys μ-keys
 unfolding has
-loop-again c = let a = c .before .before .before .before .before .before .before .before .before .before .before .args in
-    rw (entries-next (a .field) (a .s .now) (c .before .before .before .before .before .before .before .loop .at) (sym (c .before .before .before .before .before .before .next-part .ensures) ∙ c .before .before .before .before .start .given .1), sym (c .before .has-key .ensures) ∙ c .if1 .left)
-    at (c .before .before .before .before .before .before .before .loop .inv)
+loop-again c =
+    let at-start = c .before .before .before .before in
+    let at-next = at-start .before .before in
+    let at-loop = at-next .before in
+    let a = at-loop .before .before .before .before .args in
+    let found = sym (at-next .next-part .ensures) ∙ at-start .start .given .1 in
+    let another = sym (c .before .has-key .ensures) ∙ c .if1 .left in
+    rw (entries-next (a .field) (a .s .now) (at-loop .loop .at) found, another) at (at-loop .loop .inv)
 
 keys-again : tie.Need-keys-again Inv-loop μ-loop Inv-keys μ-keys
 unfolding has
-keys-again c = let a = c .before .before .before .before .before .before .before .before .before .before .before .args in
-    let k = c .before .before .before .before .before .before .before .before .before .keys .k in
-    let there : has k (entries (a .field) (items (a .s .now))) ≡ true =
-    sym (rw (entries-next (a .field) (a .s .now) (c .before .before .before .before .before .before .before .loop .at) (sym (c .before .before .before .before .before .before .next-part .ensures) ∙ c .before .before .before .before .start .given .1), sym (c .before .has-key .ensures) ∙ c .if1 .taken)
-    at (c .before .before .before .before .before .before .before .loop .inv)) in
-    (omega arith, sym (found-key (entries (a .field) (items (a .s .now))) k there (omega arith)) ∙ c .before .before .before .before .before .before .before .before .before .keys .inv .1)
+keys-again c =
+    let at-start = c .before .before .before .before in
+    let at-next = at-start .before .before in
+    let at-loop = at-next .before in
+    let a = at-loop .before .before .before .before .args in
+    let found = sym (at-next .next-part .ensures) ∙ at-start .start .given .1 in
+    let at-keys = at-loop .before .before in
+    let es = entries (a .field) (items (a .s .now)) in
+    let k = at-keys .keys .k in
+    let its-key = sym (c .before .has-key .ensures) ∙ c .if1 .taken in
+    let there : has k es ≡ true = sym (rw (entries-next (a .field) (a .s .now) (at-loop .loop .at) found, its-key) at (at-loop .loop .inv)) in
+    (omega arith, sym (found-key es k there (omega arith)) ∙ at-keys .keys .inv .1)
 
 returns : tie.Need-returns Inv-loop μ-loop Inv-keys μ-keys
 returns c = let a = c .before .before .before .args in
@@ -71,11 +102,16 @@ returns c = let a = c .before .before .before .args in
 
 returns-2 : tie.Need-returns-2 Inv-loop μ-loop Inv-keys μ-keys
 unfolding has
-returns-2 c = let a = c .before .before .before .before .before .before .before .args in
-    let k = c .before .before .before .before .before .keys .k in
-    let gone : has k (entries (a .field) (items (a .s .now))) ≡ false =
-    sym (rw (entries-none (a .field) (a .s .now) (c .before .before .before .loop .at) (sym (c .before .before .next-part .ensures) ∙ c .enum-told .given .1)) at (c .before .before .before .loop .inv)) in
-    sym (not-found (entries (a .field) (items (a .s .now))) k {n = 3 - k} gone (omega arith)) ∙ c .before .before .before .before .before .keys .inv .1
+returns-2 c =
+    let at-next = c .before .before in
+    let at-loop = at-next .before in
+    let at-keys = at-loop .before .before in
+    let a = at-keys .before .before .args in
+    let es = entries (a .field) (items (a .s .now)) in
+    let k = at-keys .keys .k in
+    let none = sym (at-next .next-part .ensures) ∙ c .enum-told .given .1 in
+    let gone : has k es ≡ false = sym (rw (entries-none (a .field) (a .s .now) (at-loop .loop .at) none) at (at-loop .loop .inv)) in
+    sym (not-found es k {n = 3 - k} gone (omega arith)) ∙ at-keys .keys .inv .1
 
 pub missing-key-spec : {M : Type 1} → statement M
 missing-key-spec =

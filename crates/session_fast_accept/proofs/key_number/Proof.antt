@@ -18,8 +18,17 @@ returns-2 c = key-is _ 1 (lit≤ tt) (key-there _ 1 (lit≤ tt) (sym (c .before 
 
 returns-3 : tie.Need-returns-3
 unfolding keyBytes
-returns-3 c = let a = c .before .before .before .before .before .before .before .before .args .a .now in
-    key-is a 4 (lit≤ tt) (key-other a (sym (c .before .before .before .before .same .ensures) ∙ c .before .before .before .if2 .left) (sym (c .before .same2 .ensures) ∙ c .if3 .left) (key-length a 2 10 refl (λ e. omega (arith, c .before .before .before .before .before .before .if1 .taken))) (key-length a 3 10 refl (λ e. omega (arith, c .before .before .before .before .before .before .if1 .taken))))
+returns-3 c =
+    let at-same2 = c .before in
+    let at-if2 = at-same2 .before .before in
+    let at-same = at-if2 .before in
+    let at-if1 = at-same .before .before in
+    let a = at-if1 .before .before .args .a .now in
+    let command = sym (at-same .same .ensures) ∙ at-if2 .if2 .left in
+    let runuser = sym (at-same2 .same2 .ensures) ∙ c .if3 .left in
+    let submithost = key-length a 2 10 refl (λ e. omega (arith, at-if1 .if1 .taken)) in
+    let submituser = key-length a 3 10 refl (λ e. omega (arith, at-if1 .if1 .taken)) in
+    key-is a 4 (lit≤ tt) (key-other a command runuser submithost submituser)
 
 returns-4 : tie.Need-returns-4
 unfolding keyBytes
@@ -31,13 +40,28 @@ returns-5 c = key-is _ 3 (lit≤ tt) (key-there _ 3 (lit≤ tt) (sym (c .before 
 
 returns-6 : tie.Need-returns-6
 unfolding keyBytes
-returns-6 c = let a = c .before .before .before .before .before .before .before .before .before .args .a .now in
-    key-is a 4 (lit≤ tt) (key-other a (key-length a 0 7 refl (c .before .before .before .before .before .before .before .if1 .left)) (key-length a 1 7 refl (c .before .before .before .before .before .before .before .if1 .left)) (sym (c .before .before .before .before .same3 .ensures) ∙ c .before .before .before .if5 .left) (sym (c .before .same4 .ensures) ∙ c .if6 .left))
+returns-6 c =
+    let at-same4 = c .before in
+    let at-if5 = at-same4 .before .before in
+    let at-same3 = at-if5 .before in
+    let at-if1 = at-same3 .before .before .before in
+    let a = at-if1 .before .before .args .a .now in
+    let command = key-length a 0 7 refl (at-if1 .if1 .left) in
+    let runuser = key-length a 1 7 refl (at-if1 .if1 .left) in
+    let submithost = sym (at-same3 .same3 .ensures) ∙ at-if5 .if5 .left in
+    let submituser = sym (at-same4 .same4 .ensures) ∙ c .if6 .left in
+    key-is a 4 (lit≤ tt) (key-other a command runuser submithost submituser)
 
 returns-7 : tie.Need-returns-7
 unfolding keyBytes
-returns-7 c = let a = c .before .before .before .args .a .now in
-    key-is a 4 (lit≤ tt) (key-other a (key-length a 0 7 refl (c .before .if1 .left)) (key-length a 1 7 refl (c .before .if1 .left)) (key-length a 2 10 refl (c .if4 .left)) (key-length a 3 10 refl (c .if4 .left)))
+returns-7 c =
+    let at-if1 = c .before in
+    let a = at-if1 .before .before .args .a .now in
+    let command = key-length a 0 7 refl (at-if1 .if1 .left) in
+    let runuser = key-length a 1 7 refl (at-if1 .if1 .left) in
+    let submithost = key-length a 2 10 refl (c .if4 .left) in
+    let submituser = key-length a 3 10 refl (c .if4 .left) in
+    key-is a 4 (lit≤ tt) (key-other a command runuser submithost submituser)
 
 pub key-number-spec : {M : Type 1} → statement M
 key-number-spec =

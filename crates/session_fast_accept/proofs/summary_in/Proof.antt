@@ -107,7 +107,9 @@ loop-again-2 c = let q = c .before .before .before .before .before .before .befo
     let h = found-part s (at + 1) _ (p .part-found .ensures) _ _ (q .start .given .1) in
     let e = c .before .before .before in
     let k = c .before .k .given in
-    entered (l .before .loop .inv) _ _ _ (part-item s at (l .loop-test .taken) 18 2 2 (sym (w .wide .ensures) ∙ c .before .before .before .before .before .if2 .taken) (lit≤ tt) (λ x. refl) refl h) (subst (EntrySeen _ _) (k .1) (e .entry-seen .ensures))
+    let tag = sym (w .wide .ensures) ∙ e .before .before .if2 .taken in
+    entered (l .before .loop .inv) _ _ _ (part-item s at (l .loop-test .taken) 18 2 2 tag (lit≤ tt) (λ x. refl) refl h)
+    (subst (EntrySeen _ _) (k .1) (e .entry-seen .ensures))
 
 returns-4 : tie.Need-returns-4 Inv-loop μ-loop
 unfolding Summarised
@@ -162,7 +164,9 @@ loop-again-3 c = let q = c .before .before .before .before .before .before in
     let at = l .before .loop .at in
     let s = l .before .before .before .args .s .now in
     let h = found-part s (at + 1) _ (p .part-found .ensures) _ _ (q .start .given .1) in
-    dated (l .before .loop .inv) _ _ (part-item s at (l .loop-test .taken) 10 1 2 (sym (w .wide .ensures) ∙ c .before .before .before .if3 .taken) (lit≤ tt) (λ x. refl) refl h) (sym (c .before .date-seen .ensures) ∙ c .if4 .taken)
+    let tag = sym (w .wide .ensures) ∙ c .before .before .before .if3 .taken in
+    dated (l .before .loop .inv) _ _ (part-item s at (l .loop-test .taken) 10 1 2 tag (lit≤ tt) (λ x. refl) refl h)
+    (sym (c .before .date-seen .ensures) ∙ c .if4 .taken)
 
 returns-5 : tie.Need-returns-5 Inv-loop μ-loop
 unfolding Summarised
