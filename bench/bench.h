@@ -87,7 +87,7 @@ INLINE bool next_message(const struct work *w, size_t *at, struct message *m)
 
 /* ---- what a reader finds ----
  *
- * It is told to a listener. In the timed passes the listener adds up numbers, lengths and first bytes, so that they are
+ * It is given to a listener. In the timed passes the listener adds up numbers, lengths and first bytes, so that they are
  * found and used; in the comparison it hashes everything. Readers are inlined, so which of the two is known when they
  * are compiled. */
 
@@ -143,7 +143,7 @@ INLINE void hear_refusal(struct listener *to)
 
 /* ---- contenders ---- */
 
-/* What a pass answers. Contenders with the same answer return the same sum; readers have the same digest of each
+/* What a pass returns. Contenders with the same answer return the same sum; readers have the same digest of each
  * message besides, and the others leave the same bytes in the area. */
 enum answer {
     MEMBERS,   /* STREAM: of an I/O buffer its member, delay and data; of an accept only that it is one */

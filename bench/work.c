@@ -128,19 +128,19 @@ static struct list split(const char *value)
 
 static size_t write_entry(size_t which, uint8_t *out, size_t room)
 {
-    const uint8_t *key = sudolog_text(entries[which].key), *value = sudolog_text(entries[which].value);
-    size_t key_n = strlen(entries[which].key), value_n = strlen(entries[which].value);
-    struct list list = split(entries[which].value);
+    const char *key = entries[which].key, *value = entries[which].value;
+    struct list list = split(value);
     switch (entries[which].kind) {
     case NUMBER:
-        return written(sudolog_write_entry_number(2, key, key_n, list.numbers[0], 0, out, room));
+        return written(sudolog_write_entry_number(2, SUDOLOG_LEND_STRING(key), list.numbers[0], 0, out, room));
     case STRING:
-        return written(sudolog_write_entry_string(2, key, key_n, value, value_n, 0, out, room));
+        return written(sudolog_write_entry_string(2, SUDOLOG_LEND_STRING(key), SUDOLOG_LEND_STRING(value), 0, out, room));
     case STRINGS:
-        return written(sudolog_write_entry_strings(2, key, key_n, sudolog_text(list.joined), list.joined_n, list.ends,
-                                                   list.n, 0, out, room));
+        return written(sudolog_write_entry_strings(2, SUDOLOG_LEND_STRING(key),
+                                                   SUDOLOG_LEND_TEXT(list.joined, list.joined_n), list.ends, list.n, 0,
+                                                   out, room));
     default:
-        return written(sudolog_write_entry_numbers(2, key, key_n, list.numbers, list.n, 0, out, room));
+        return written(sudolog_write_entry_numbers(2, SUDOLOG_LEND_STRING(key), list.numbers, list.n, 0, out, room));
     }
 }
 
@@ -308,7 +308,7 @@ static void make_file(struct work *w, size_t records, size_t least, size_t most)
             w->resume = total_of(&session);
     }
     w->restart.bytes = restart;
-    w->restart.n = written(sudolog_write_restart(SUDOLOG_FROM_CLIENT_RESTART, sudolog_text("id"), 2,
+    w->restart.n = written(sudolog_write_restart(SUDOLOG_FROM_CLIENT_RESTART, SUDOLOG_LEND_STRING("id"),
                                                  w->resume / 1000000000, w->resume % 1000000000, false, restart,
                                                  AROUND));
 }

@@ -3,17 +3,17 @@
  *
  * The first part declares what libsudolog.a exports: functions on numbers and byte slices (a pointer
  * and a length). None of them trusts its caller: every slice of every length has an answer, nothing is
- * kept between calls, nothing is allocated, and a refusal writes nothing. A slice of length 0 may have
- * any pointer but NULL; the readers in the second part take NULL too, and for the writers sudolog_lend and
- * its like make a pointer of NULL. The functions that give values are meant for slices that sudolog_decode
- * or sudolog_read takes; of any other slice they give those of the fields before the first that can't be
- * read. Message number 16 names what a packed list of numbers holds, varints and no fields; a number above
- * 16 a message with no fields: all are skipped.
+ * kept between calls, nothing is allocated, and a refusal writes nothing. No pointer may be NULL, even
+ * with length 0: where one might be, SUDOLOG_LEND and its like, in the second part, lend it. The functions
+ * that give values are meant for slices that sudolog_decode or sudolog_read takes; of any other slice they
+ * give those of the fields before the first that can't be read. Message number 16 names what a packed list
+ * of numbers holds, varints and no fields; a number above 16 a message with no fields: all are skipped.
  *
  * The second part is written over the first, in C: a struct for each message of sudo_logsrv.proto and
- * a reader that fills it, and what a C program needs beside the writers.
+ * a reader that fills it, and what a C program needs beside the writers. There a slice whose pointer is NULL
+ * is an empty one, whatever length is given with it.
  *
- * Refusals are document 01's numbers (README.md has the table): 1 frame or message too long, 2 varint,
+ * Refusals are document 01's numbers (docs/FORMAT.md has the table): 1 frame or message too long, 2 varint,
  * 3 length past the end, 4 bad tag or wire type, 5 known field with another wire type, 6 no member, 7 out
  * of range, 8 required entry missing, 9 not this state's turn, 10 total too great, 11 delay zero at a restart
  * point, 12 no room in the buffer or area that was lent, 13 restart of a finished file, 14 no beginning has
@@ -25,6 +25,7 @@
 #include <stdbool.h>
 #include <stddef.h>
 #include <stdint.h>
+#include <string.h>
 
 #ifdef __cplusplus
 extern "C" {
@@ -50,14 +51,14 @@ enum sudolog_message {
     SUDOLOG_SERVER_HELLO = 15
 };
 
-/* What stands at the start of a stream: answers of sudolog_frame_state. */
+/* What stands at the start of a stream: what sudolog_frame_state returns. */
 enum sudolog_frame {
     SUDOLOG_FRAME_WHOLE = 0,   /* four bytes of length, then the whole message */
     SUDOLOG_FRAME_REFUSED = 1, /* refusal 1: the length is above 2,097,152 */
-    SUDOLOG_FRAME_WAIT = 2     /* too few bytes to tell yet */
+    SUDOLOG_FRAME_WAIT = 2     /* too few bytes to decide yet */
 };
 
-/* What the used bytes of an area are: answers of sudolog_check_file. */
+/* What the used bytes of an area are: what sudolog_check_file returns. */
 enum sudolog_file {
     SUDOLOG_FILE_UNFINISHED = 0, /* a valid file without an exit */
     SUDOLOG_FILE_FINISHED = 1,   /* a valid file with its exit */
@@ -88,15 +89,15 @@ uint64_t sudolog_member(uint8_t message, const uint8_t *s, size_t n);
  * 32 of them; a bool is true for all but 0. */
 uint64_t sudolog_number(uint64_t field, const uint8_t *s, size_t n);
 
-/* Where the last string, bytes or embedded message given for a field lies in s; 0 and 0 where it is
+/* Where the last string, bytes or embedded message given for a field is in s; 0 and 0 where it is
  * absent, which reads as empty. Where a field may be given as a number and as bytes (field 1 of a
  * NumberList, and a field that the message does not know), the last one given decides, and the other
- * call answers as where it is absent. */
+ * call returns what it does for an absent one. */
 uint64_t sudolog_offset(uint64_t field, const uint8_t *s, size_t n);
 uint64_t sudolog_length(uint64_t field, const uint8_t *s, size_t n);
 
 /* Lists of strings and of messages, one element after the other: where the first one given for a field
- * at or after the place `at` lies; UINT64_MAX (and length 0) where there is none. Begin with at 0; the
+ * at or after the place `at` is; UINT64_MAX (and length 0) where there is none. Begin with at 0; the
  * next place is offset + length. */
 uint64_t sudolog_next_offset(uint64_t field, const uint8_t *s, size_t n, size_t at);
 uint64_t sudolog_next_length(uint64_t field, const uint8_t *s, size_t n, size_t at);
@@ -116,7 +117,7 @@ uint8_t sudolog_client(const uint8_t *s, size_t n, uint8_t *out, size_t room);
 /* ---- writing ----
  *
  * Each function writes one message into `out`, from its start, in the one form that document 01 gives it, and
- * answers a number: its low 32 bits are how many bytes were written, the bits above them a refusal's number, 0
+ * returns a number: its low 32 bits are how many bytes were written, the bits above them a refusal's number, 0
  * for none. Refusals come in this order: 2 to 5 and 7 of the run of entries that was lent; 7 for a value outside
  * its range; 1 for a message above 2,097,152 bytes; 12 where the message and its frame have no room. A refusal
  * writes nothing.
@@ -178,7 +179,7 @@ uint64_t sudolog_write_entry_numbers(uint64_t member, const uint8_t *key, size_t
  *   24  the greatest total below it that a beginning of the file has, in nanoseconds
  *   32  the point of the restart in nanoseconds; 0 where none stands
  *
- * Bytes that are no session (another length than 40, a state that is none, a number beyond its limit) answer
+ * Bytes that are no session (another length than 40, a state that is none, a number beyond its limit) count
  * as a closed session. The area is the bytes lent for the session's file, `used` how many of them the file has.
  * The slices of one call must not overlap. */
 
@@ -224,11 +225,11 @@ uint8_t sudolog_check_file(const uint8_t *area, size_t area_n, size_t used);
  *   alert           AlertMessage              time          TimeSpec
  *   client_hello    ClientHello               server_hello  ServerHello
  *
- * (m, n) is the message without its frame's four bytes; m may be NULL where n is 0. Nothing is copied
- * and nothing is allocated: strings, bytes and embedded messages come back as spans of the slice that
- * was handed in, lists as small structs that point into it and are walked with a `next` function.
- * "In range" beside a member is what sudolog_read_NAME takes; after sudolog_decode_NAME it may hold any
- * value of its type.
+ * (m, n) is the message without its frame's four bytes; where m is NULL it is an empty message, whatever
+ * n is. Nothing is copied and nothing is allocated: strings, bytes and embedded messages come back as spans
+ * of the slice that was handed in, lists as small structs that point into it and are walked with a `next`
+ * function. "In range" beside a member is what sudolog_read_NAME takes; after sudolog_decode_NAME it may
+ * hold any value of its type.
  *
  *   struct sudolog_client_message message;
  *   struct sudolog_accept accept;
@@ -243,7 +244,7 @@ uint8_t sudolog_check_file(const uint8_t *area, size_t area_n, size_t used);
  */
 
 /* The bytes m[offset] to m[offset + length - 1] of the slice m that was handed in. What is absent has
- * length 0, as what is there and empty: the protocol does not tell the two apart. */
+ * length 0, as what is there and empty: the protocol makes no difference between the two. */
 struct sudolog_span {
     size_t offset;
     size_t length;
@@ -275,7 +276,7 @@ struct sudolog_number_list {
     const uint8_t *m;
     size_t n;
     size_t at;  /* where the next number is looked for */
-    size_t end; /* where the packed part that `at` lies in ends */
+    size_t end; /* where the packed part that `at` is in ends */
 };
 
 /* What an entry's value is: the field number in InfoMessage. */
@@ -405,10 +406,69 @@ static inline uint64_t sudolog_big_endian(const uint8_t *p)
            (uint64_t)p[4] << 24 | (uint64_t)p[5] << 16 | (uint64_t)p[6] << 8 | (uint64_t)p[7];
 }
 
-/* A pointer that the library may be handed: it takes no NULL, even with length 0. */
+/* ---- what the library is lent ----
+ *
+ * Each of these is the two arguments that a function of the first part takes for a slice: a pointer that is not
+ * NULL, and a length.
+ *
+ *   SUDOLOG_LEND(m, n)                n bytes: const uint8_t *
+ *   SUDOLOG_LEND_TEXT(text, n)        n bytes: const char *
+ *   SUDOLOG_LEND_STRING(text)         a C string without its closing zero
+ *   SUDOLOG_LEND_ENDS(ends, n)        n ends of a list of strings: const size_t *
+ *   SUDOLOG_LEND_NUMBERS(numbers, n)  n numbers of a list: const int64_t *
+ *   SUDOLOG_LEND_ROOM(out, n)         n bytes that may be written, a writer's room or an area: uint8_t *
+ *
+ * NULL is lent with length 0, whatever n is: no bytes, an empty list, no room. The functions below lend all that
+ * they are handed in this way, so NULL gives what an empty slice gives: refusal 6 for a ClientMessage or a
+ * ServerMessage, also in a session; of other messages absent fields; a frame to wait for. Into a NULL room or area
+ * nothing is written: that is refusal 12, and 15 for a restart and where the used length is above 0.
+ *
+ * An array is never NULL and may be handed over as it is. The pointer is evaluated twice. */
+#define SUDOLOG_LEND(m, n) sudolog_lend(m), sudolog_lent(m, n)
+#define SUDOLOG_LEND_TEXT(text, n) sudolog_text(text), sudolog_lent(text, n)
+#define SUDOLOG_LEND_STRING(text) sudolog_text(text), sudolog_text_length(text)
+#define SUDOLOG_LEND_ENDS(ends, n) sudolog_lend_ends(ends), sudolog_lent(ends, n)
+#define SUDOLOG_LEND_NUMBERS(numbers, n) sudolog_lend_numbers(numbers), sudolog_lent(numbers, n)
+#define SUDOLOG_LEND_ROOM(out, n) sudolog_lend_room(out), sudolog_lent(out, n)
+
+/* The length that goes with a pointer. */
+static inline size_t sudolog_lent(const void *pointer, size_t n)
+{
+    return pointer != NULL ? n : 0;
+}
+
+static inline size_t sudolog_text_length(const char *text)
+{
+    return text != NULL ? strlen(text) : 0;
+}
+
+/* The pointers. Of NULL they make one that goes with length 0 alone: use the macros. */
 static inline const uint8_t *sudolog_lend(const uint8_t *m)
 {
     return m != NULL ? m : (const uint8_t *)"";
+}
+
+static inline const uint8_t *sudolog_text(const char *text)
+{
+    return sudolog_lend((const uint8_t *)text);
+}
+
+static inline const size_t *sudolog_lend_ends(const size_t *ends)
+{
+    static const size_t none = 0;
+    return ends != NULL ? ends : &none;
+}
+
+static inline const uint64_t *sudolog_lend_numbers(const int64_t *numbers)
+{
+    static const uint64_t none = 0;
+    return numbers != NULL ? (const uint64_t *)numbers : &none;
+}
+
+static inline uint8_t *sudolog_lend_room(uint8_t *out)
+{
+    static uint8_t none = 0;
+    return out != NULL ? out : &none;
 }
 
 /* Two's complement by hand: C leaves the conversion of large numbers to the compiler. */
@@ -427,8 +487,8 @@ static inline int32_t sudolog_int32(uint64_t bits)
  * starts at s + 4), how many bytes are missing to the next decision (SUDOLOG_FRAME_WAIT), or 0. */
 static inline enum sudolog_frame sudolog_cut_frame(const uint8_t *s, size_t n, size_t *count)
 {
-    *count = (size_t)sudolog_frame_count(sudolog_lend(s), n);
-    return (enum sudolog_frame)sudolog_frame_state(sudolog_lend(s), n);
+    *count = (size_t)sudolog_frame_count(SUDOLOG_LEND(s, n));
+    return (enum sudolog_frame)sudolog_frame_state(SUDOLOG_LEND(s, n));
 }
 
 /* ---- fields of a message that was read ---- */
@@ -436,21 +496,31 @@ static inline enum sudolog_frame sudolog_cut_frame(const uint8_t *s, size_t n, s
 static inline struct sudolog_span sudolog_field_span(uint64_t field, const uint8_t *m, size_t n)
 {
     struct sudolog_span span;
-    span.offset = (size_t)sudolog_offset(field, m, n);
-    span.length = (size_t)sudolog_length(field, m, n);
+    span.offset = (size_t)sudolog_offset(field, SUDOLOG_LEND(m, n));
+    span.length = (size_t)sudolog_length(field, SUDOLOG_LEND(m, n));
     return span;
+}
+
+static inline int64_t sudolog_field_int64(uint64_t field, const uint8_t *m, size_t n)
+{
+    return sudolog_int64(sudolog_number(field, SUDOLOG_LEND(m, n)));
+}
+
+static inline int32_t sudolog_field_int32(uint64_t field, const uint8_t *m, size_t n)
+{
+    return sudolog_int32(sudolog_number(field, SUDOLOG_LEND(m, n)));
 }
 
 static inline bool sudolog_field_flag(uint64_t field, const uint8_t *m, size_t n)
 {
-    return sudolog_number(field, m, n) != 0;
+    return sudolog_number(field, SUDOLOG_LEND(m, n)) != 0;
 }
 
 static inline struct sudolog_parts sudolog_field_parts(uint64_t field, const uint8_t *m, size_t n)
 {
     struct sudolog_parts parts;
-    parts.m = m;
-    parts.n = n;
+    parts.m = sudolog_lend(m);
+    parts.n = sudolog_lent(m, n);
     parts.at = 0;
     parts.field = field;
     return parts;
@@ -458,16 +528,15 @@ static inline struct sudolog_parts sudolog_field_parts(uint64_t field, const uin
 
 static inline void sudolog_get_time(const uint8_t *m, size_t n, struct sudolog_time *out)
 {
-    m = sudolog_lend(m);
-    out->seconds = sudolog_int64(sudolog_number(1, m, n));
-    out->nanoseconds = sudolog_int32(sudolog_number(2, m, n));
+    out->seconds = sudolog_field_int64(1, m, n);
+    out->nanoseconds = sudolog_field_int32(2, m, n);
 }
 
 static inline struct sudolog_time sudolog_field_time(uint64_t field, const uint8_t *m, size_t n)
 {
     struct sudolog_span span = sudolog_field_span(field, m, n);
     struct sudolog_time moment;
-    sudolog_get_time(m + span.offset, span.length, &moment);
+    sudolog_get_time(sudolog_lend(m) + span.offset, span.length, &moment);
     return moment;
 }
 
@@ -475,31 +544,28 @@ static inline struct sudolog_time sudolog_field_time(uint64_t field, const uint8
 
 static inline void sudolog_get_string_list(const uint8_t *m, size_t n, struct sudolog_string_list *out)
 {
-    out->parts = sudolog_field_parts(1, sudolog_lend(m), n);
+    out->parts = sudolog_field_parts(1, m, n);
 }
 
 static inline void sudolog_get_number_list(const uint8_t *m, size_t n, struct sudolog_number_list *out)
 {
     out->m = sudolog_lend(m);
-    out->n = n;
+    out->n = sudolog_lent(m, n);
     out->at = 0;
     out->end = 0;
 }
 
 static inline void sudolog_get_entry(const uint8_t *m, size_t n, struct sudolog_entry *out)
 {
-    uint64_t field;
-    m = sudolog_lend(m);
-    field = sudolog_member(SUDOLOG_INFO_MESSAGE, m, n);
+    uint64_t field = sudolog_member(SUDOLOG_INFO_MESSAGE, SUDOLOG_LEND(m, n));
     out->key = sudolog_field_span(1, m, n);
     out->kind = (int)field;
-    out->number = field == SUDOLOG_VALUE_NUMBER ? sudolog_int64(sudolog_number(field, m, n)) : 0;
+    out->number = field == SUDOLOG_VALUE_NUMBER ? sudolog_field_int64(field, m, n) : 0;
     out->value = sudolog_field_span(field, m, n);
 }
 
 static inline void sudolog_get_accept(const uint8_t *m, size_t n, struct sudolog_accept *out)
 {
-    m = sudolog_lend(m);
     out->submit_time = sudolog_field_time(1, m, n);
     out->entries.parts = sudolog_field_parts(2, m, n);
     out->expect_iobufs = sudolog_field_flag(3, m, n);
@@ -507,7 +573,6 @@ static inline void sudolog_get_accept(const uint8_t *m, size_t n, struct sudolog
 
 static inline void sudolog_get_reject(const uint8_t *m, size_t n, struct sudolog_reject *out)
 {
-    m = sudolog_lend(m);
     out->submit_time = sudolog_field_time(1, m, n);
     out->reason = sudolog_field_span(2, m, n);
     out->entries.parts = sudolog_field_parts(3, m, n);
@@ -515,7 +580,6 @@ static inline void sudolog_get_reject(const uint8_t *m, size_t n, struct sudolog
 
 static inline void sudolog_get_alert(const uint8_t *m, size_t n, struct sudolog_alert *out)
 {
-    m = sudolog_lend(m);
     out->alert_time = sudolog_field_time(1, m, n);
     out->reason = sudolog_field_span(2, m, n);
     out->entries.parts = sudolog_field_parts(3, m, n);
@@ -523,9 +587,8 @@ static inline void sudolog_get_alert(const uint8_t *m, size_t n, struct sudolog_
 
 static inline void sudolog_get_exit(const uint8_t *m, size_t n, struct sudolog_exit *out)
 {
-    m = sudolog_lend(m);
     out->run_time = sudolog_field_time(1, m, n);
-    out->exit_value = sudolog_int32(sudolog_number(2, m, n));
+    out->exit_value = sudolog_field_int32(2, m, n);
     out->dumped_core = sudolog_field_flag(3, m, n);
     out->signal = sudolog_field_span(4, m, n);
     out->error = sudolog_field_span(5, m, n);
@@ -533,41 +596,36 @@ static inline void sudolog_get_exit(const uint8_t *m, size_t n, struct sudolog_e
 
 static inline void sudolog_get_restart(const uint8_t *m, size_t n, struct sudolog_restart *out)
 {
-    m = sudolog_lend(m);
     out->log_id = sudolog_field_span(1, m, n);
     out->resume_point = sudolog_field_time(2, m, n);
 }
 
 static inline void sudolog_get_io_buffer(const uint8_t *m, size_t n, struct sudolog_io_buffer *out)
 {
-    m = sudolog_lend(m);
     out->delay = sudolog_field_time(1, m, n);
     out->data = sudolog_field_span(2, m, n);
 }
 
 static inline void sudolog_get_window_size(const uint8_t *m, size_t n, struct sudolog_window_size *out)
 {
-    m = sudolog_lend(m);
     out->delay = sudolog_field_time(1, m, n);
-    out->rows = sudolog_int32(sudolog_number(2, m, n));
-    out->cols = sudolog_int32(sudolog_number(3, m, n));
+    out->rows = sudolog_field_int32(2, m, n);
+    out->cols = sudolog_field_int32(3, m, n);
 }
 
 static inline void sudolog_get_suspend(const uint8_t *m, size_t n, struct sudolog_suspend *out)
 {
-    m = sudolog_lend(m);
     out->delay = sudolog_field_time(1, m, n);
     out->signal = sudolog_field_span(2, m, n);
 }
 
 static inline void sudolog_get_client_hello(const uint8_t *m, size_t n, struct sudolog_client_hello *out)
 {
-    out->client_id = sudolog_field_span(1, sudolog_lend(m), n);
+    out->client_id = sudolog_field_span(1, m, n);
 }
 
 static inline void sudolog_get_server_hello(const uint8_t *m, size_t n, struct sudolog_server_hello *out)
 {
-    m = sudolog_lend(m);
     out->server_id = sudolog_field_span(1, m, n);
     out->redirect = sudolog_field_span(2, m, n);
     out->servers.parts = sudolog_field_parts(3, m, n);
@@ -576,23 +634,18 @@ static inline void sudolog_get_server_hello(const uint8_t *m, size_t n, struct s
 
 static inline void sudolog_get_client_message(const uint8_t *m, size_t n, struct sudolog_client_message *out)
 {
-    uint64_t field;
-    m = sudolog_lend(m);
-    field = sudolog_member(SUDOLOG_CLIENT_MESSAGE, m, n);
+    uint64_t field = sudolog_member(SUDOLOG_CLIENT_MESSAGE, SUDOLOG_LEND(m, n));
     out->member = (int)field;
     out->content = sudolog_field_span(field, m, n);
 }
 
 static inline void sudolog_get_server_message(const uint8_t *m, size_t n, struct sudolog_server_message *out)
 {
-    bool committed;
-    uint64_t field;
-    m = sudolog_lend(m);
-    field = sudolog_member(SUDOLOG_SERVER_MESSAGE, m, n);
-    committed = field == SUDOLOG_FROM_SERVER_COMMIT_POINT;
+    uint64_t field = sudolog_member(SUDOLOG_SERVER_MESSAGE, SUDOLOG_LEND(m, n));
+    bool committed = field == SUDOLOG_FROM_SERVER_COMMIT_POINT;
     out->member = (int)field;
     out->content = sudolog_field_span(field, m, n);
-    sudolog_get_time(m + out->content.offset, committed ? out->content.length : 0, &out->commit_point);
+    sudolog_get_time(sudolog_lend(m) + out->content.offset, committed ? out->content.length : 0, &out->commit_point);
 }
 
 /* ---- reading: sudolog_decode_NAME and sudolog_read_NAME of every message ---- */
@@ -600,14 +653,14 @@ static inline void sudolog_get_server_message(const uint8_t *m, size_t n, struct
 #define SUDOLOG_READERS(NAME, MESSAGE)                                                                      \
     static inline int sudolog_decode_##NAME(const uint8_t *m, size_t n, struct sudolog_##NAME *out)         \
     {                                                                                                       \
-        int refusal = sudolog_decode(MESSAGE, sudolog_lend(m), n);                                          \
+        int refusal = sudolog_decode(MESSAGE, SUDOLOG_LEND(m, n));                                          \
         if (refusal == 0)                                                                                   \
             sudolog_get_##NAME(m, n, out);                                                                  \
         return refusal;                                                                                     \
     }                                                                                                       \
     static inline int sudolog_read_##NAME(const uint8_t *m, size_t n, struct sudolog_##NAME *out)           \
     {                                                                                                       \
-        int refusal = sudolog_read(MESSAGE, sudolog_lend(m), n);                                            \
+        int refusal = sudolog_read(MESSAGE, SUDOLOG_LEND(m, n));                                            \
         if (refusal == 0)                                                                                   \
             sudolog_get_##NAME(m, n, out);                                                                  \
         return refusal;                                                                                     \
@@ -638,7 +691,7 @@ SUDOLOG_READERS(time, SUDOLOG_TIME_SPEC)
 static inline int sudolog_scan_client(const uint8_t *m, size_t n, struct sudolog_client_scan *out)
 {
     uint8_t numbers[40];
-    int refusal = sudolog_client(sudolog_lend(m), n, numbers, sizeof numbers);
+    int refusal = sudolog_client(SUDOLOG_LEND(m, n), numbers, sizeof numbers);
     if (refusal != 0)
         return refusal;
     out->member = (int)sudolog_big_endian(numbers);
@@ -653,11 +706,11 @@ static inline int sudolog_scan_client(const uint8_t *m, size_t n, struct sudolog
 
 static inline int sudolog_next_part(struct sudolog_parts *left, struct sudolog_span *out)
 {
-    uint64_t offset = sudolog_next_offset(left->field, left->m, left->n, left->at);
+    uint64_t offset = sudolog_next_offset(left->field, SUDOLOG_LEND(left->m, left->n), left->at);
     if (offset == UINT64_MAX)
         return 0;
     out->offset = (size_t)offset;
-    out->length = (size_t)sudolog_next_length(left->field, left->m, left->n, left->at);
+    out->length = (size_t)sudolog_next_length(left->field, SUDOLOG_LEND(left->m, left->n), left->at);
     left->at = out->offset + out->length;
     return 1;
 }
@@ -683,7 +736,7 @@ static inline int sudolog_next_entry(struct sudolog_entry_list *left, struct sud
 static inline int sudolog_next_int64(struct sudolog_number_list *left, int64_t *out)
 {
     uint8_t numbers[24];
-    if (sudolog_next_number(left->m, left->n, left->at, left->end, numbers, sizeof numbers) != 1)
+    if (sudolog_next_number(SUDOLOG_LEND(left->m, left->n), left->at, left->end, numbers, sizeof numbers) != 1)
         return 0;
     *out = sudolog_int64(sudolog_big_endian(numbers));
     left->at = (size_t)sudolog_big_endian(numbers + 8);
@@ -693,20 +746,19 @@ static inline int sudolog_next_int64(struct sudolog_number_list *left, int64_t *
 
 /* ---- beside the writers ----
  *
- * What they answer, taken apart, and slices as they are lent. An accept with two entries and then a commit
- * point, each as a frame:
+ * What they answer, taken apart. An accept with two entries and then a commit point, each as a frame:
  *
  *   static const size_t ends[] = { 2, 4 };
  *   uint8_t run[512], accept[1024], point[64];
  *   size_t run_n = 0, accept_n = 0, point_n = 0;
  *   int refusal = sudolog_add_written(
- *       sudolog_write_entry_string(SUDOLOG_ENTRY_OF_ACCEPT, sudolog_text("command"), 7,
- *                                  sudolog_text("/bin/ls"), 7, 0, run, sizeof run),
+ *       sudolog_write_entry_string(SUDOLOG_ENTRY_OF_ACCEPT, SUDOLOG_LEND_STRING("command"),
+ *                                  SUDOLOG_LEND_STRING("/bin/ls"), 0, run, sizeof run),
  *       &run_n);
  *   if (refusal == 0)
  *       refusal = sudolog_add_written(
- *           sudolog_write_entry_strings(SUDOLOG_ENTRY_OF_ACCEPT, sudolog_text("runargv"), 7,
- *                                       sudolog_text("ls-l"), 4, ends, 2, 0, run + run_n, sizeof run - run_n),
+ *           sudolog_write_entry_strings(SUDOLOG_ENTRY_OF_ACCEPT, SUDOLOG_LEND_STRING("runargv"),
+ *                                       SUDOLOG_LEND_STRING("ls-l"), ends, 2, 0, run + run_n, sizeof run - run_n),
  *           &run_n);
  *   if (refusal == 0)
  *       refusal = sudolog_add_written(
@@ -746,32 +798,6 @@ static inline int sudolog_add_written(uint64_t written, size_t *used)
     return sudolog_written_refusal(written);
 }
 
-/* A C string's bytes as they are lent, its length to be given beside them. NULL is lent with length 0. */
-static inline const uint8_t *sudolog_text(const char *text)
-{
-    return sudolog_lend((const uint8_t *)text);
-}
-
-/* The ends of a list of strings, and a list of numbers; NULL where there are none. */
-static inline const size_t *sudolog_lend_ends(const size_t *ends)
-{
-    static const size_t none = 0;
-    return ends != NULL ? ends : &none;
-}
-
-static inline const uint64_t *sudolog_lend_numbers(const int64_t *numbers)
-{
-    static const uint64_t none = 0;
-    return numbers != NULL ? (const uint64_t *)numbers : &none;
-}
-
-/* Where a writer writes to; NULL with room 0. */
-static inline uint8_t *sudolog_lend_room(uint8_t *out)
-{
-    static uint8_t none = 0;
-    return out != NULL ? out : &none;
-}
-
 /* ---- the session, with its 40 bytes in a struct ----
  *
  *   struct sudolog_session session = sudolog_new_session();
@@ -801,7 +827,7 @@ struct sudolog_session {
     uint8_t bytes[40];
 };
 
-/* What sudolog_take_message answers beside the refusal. */
+/* What sudolog_take_message returns beside the refusal. */
 struct sudolog_answer {
     int refusal;               /* 0 for none */
     int key;                   /* of refusal 8: 0 command, 1 runuser, 2 submithost, 3 submituser */
@@ -827,7 +853,7 @@ static inline struct sudolog_session sudolog_new_session(void)
     return session;
 }
 
-/* The 40 bytes that sudolog_session_message answers with, as a struct. */
+/* The 40 bytes that sudolog_session_message writes, as a struct. */
 static inline void sudolog_get_answer(int refusal, const uint8_t *out, struct sudolog_answer *answer)
 {
     answer->refusal = refusal;
@@ -838,13 +864,14 @@ static inline void sudolog_get_answer(int refusal, const uint8_t *out, struct su
     answer->state = (enum sudolog_state)sudolog_big_endian(out + 32);
 }
 
-/* Hands a message to the session: its refusal, 0 for none. The answer is filled in either way. */
+/* Hands a message to the session: its refusal, 0 for none. The answer is filled in either way. A NULL area is
+ * one of length 0, whatever area_n is: messages that store nothing need no other. */
 static inline int sudolog_take_message(struct sudolog_session *session, const uint8_t *m, size_t n,
                                        uint8_t *area, size_t area_n, size_t used, struct sudolog_answer *answer)
 {
     uint8_t out[40];
-    int refusal = sudolog_session_message(session->bytes, sizeof session->bytes, sudolog_lend(m), n,
-                                          sudolog_lend_room(area), area_n, used, out, sizeof out);
+    int refusal = sudolog_session_message(session->bytes, sizeof session->bytes, SUDOLOG_LEND(m, n),
+                                          SUDOLOG_LEND_ROOM(area, area_n), used, out, sizeof out);
     sudolog_get_answer(refusal, out, answer);
     return refusal;
 }

@@ -1,5 +1,5 @@
 /*
- * base.h: what all parts of tests/fuzz.c use: counts, what libFuzzer is told, the faults, the grounds that slices are
+ * base.h: what all parts of tests/fuzzing/fuzz.c use: counts, what libFuzzer gets, the faults, the grounds that slices are
  * lent from, the program that an input is, and the host's memory.
  */
 #ifndef BASE_H
@@ -11,7 +11,7 @@
 #include <signal.h>
 #include <ucontext.h>
 
-/* ---- counting, and what libFuzzer is told ---- */
+/* ---- counting, and what libFuzzer gets ---- */
 
 static struct {
     unsigned long inputs, calls, properties;
@@ -133,14 +133,14 @@ static const char *const faults[FAULTS] = {
     "write-slack",     /* a writer changes a byte of its room behind what it wrote */
     "write-refused",   /* a writer that refuses changes a byte */
     "other-value",     /* a writer writes another second than it was handed */
-    "other-size",      /* a writer answers with a byte less */
+    "other-size",      /* a writer returns a byte less */
     "unsteady",        /* a field's number is another at each call */
     "area-refused",    /* a message that is refused changes the area */
     "open-refused",    /* or leaves the session open */
     "used-refused",    /* or changes the used length */
     "other-number",    /* a message out of its turn is refused with 10 */
     "other-record",    /* a stored record has another delay */
-    "other-point",     /* an exit answers with a point that is 1 ns later */
+    "other-point",     /* an exit returns a point that is 1 ns later */
     "tick-total",      /* a tick gives the present total */
     "restart-refused", /* a restart at a point that was given is refused with 14 */
     "file-open",       /* a finished file is checked as unfinished */

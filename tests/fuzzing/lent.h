@@ -1,7 +1,7 @@
 /*
- * lent.h: memory as tests/fuzz.c lends it to the library.
+ * lent.h: memory as fuzz.c lends it to the library.
  *
- * A ground is whole pages between two pages that can't be touched. A slice lies at one end of it, so that a byte read
+ * A ground is whole pages between two pages that can't be touched. A slice is at one end of it, so that a byte read
  * or written too far at that end faults at once; on the other side stands a margin of known bytes, which is looked at
  * after the call. Each call is made twice, with its slices at the upper and at the lower ends. So every write outside a
  * slice is found that goes less than the margin's length or as far as the next page, and every read past either end
@@ -36,7 +36,7 @@ struct ground {
     size_t at, n;   /* the slice that was lent last */
 };
 
-/* Slices lie at the lower ends of their grounds, otherwise at the upper ends. */
+/* Slices are at the lower ends of their grounds, otherwise at the upper ends. */
 static bool at_lower_end;
 
 static uint8_t *mapped(uint8_t *at, size_t n, int may, int how, int file)
@@ -103,7 +103,7 @@ static const uint8_t *held(const struct ground *g)
     return g->write + g->at;
 }
 
-/* Without a loop: libFuzzer would be told of each comparison. */
+/* Without a loop: libFuzzer would get each comparison. */
 static bool all_are(const uint8_t *bytes, size_t n, uint8_t byte)
 {
     return n == 0 || (bytes[0] == byte && memcmp(bytes, bytes + 1, n - 1) == 0);

@@ -1,5 +1,5 @@
 /*
- * reading.h: the reading calls and the cutting of frames, for tests/fuzz.c. A message's bytes are read as any message; the
+ * reading.h: the reading calls and the cutting of frames, for fuzz.c. A message's bytes are read as any message; the
  * header's promises are checked, and that both places at which they are lent give the same answers.
  */
 #ifndef READING_H
@@ -43,7 +43,7 @@ static uint64_t ask_number(uint64_t field, const uint8_t *s, size_t n)
     return sudolog_number(field, s, n) + (fault == UNSTEADY && n > 0 ? turn++ : 0);
 }
 
-/* Where the next element lies, and its length. */
+/* Where the next element is, and its length. */
 static uint64_t ask_next(uint64_t field, const uint8_t *s, size_t n, size_t at, uint64_t *length)
 {
     uint64_t offset = sudolog_next_offset(field, s, n, at);
@@ -66,7 +66,7 @@ static int ask_client(const uint8_t *s, size_t n, uint8_t *out, size_t room)
 }
 
 /* Is a field a string, bytes or an embedded message wherever this message is taken. Of other fields (unknown ones, and a
- * NumberList's numbers) a number may follow bytes, and then sudolog_offset answers as of an absent one. */
+ * NumberList's numbers) a number may follow bytes, and then sudolog_offset returns what it does for an absent one. */
 static bool is_part(uint8_t message, uint64_t field)
 {
     static const uint16_t parts[16] = { 0x3FFE, 0x6, 0xE, 0x32, 0x6, 0xE, 0x6, 0x2, 0x6, 0x2, 0, 0x3A, 0x2, 0, 0x3E, 0xE };
@@ -81,7 +81,7 @@ static void read_field(uint64_t field, const uint8_t *s, size_t n, bool part, st
     size_t at = 0, steps = 0;
     tally.calls += 2;
     call_name = "sudolog_offset and sudolog_length";
-    HOLDS(offset <= n && length <= n - offset, "a field's bytes lie in the slice");
+    HOLDS(offset <= n && length <= n - offset, "a field's bytes are in the slice");
     note(out, ask_number(field, s, n));
     note(out, offset);
     note(out, length);
@@ -92,7 +92,7 @@ static void read_field(uint64_t field, const uint8_t *s, size_t n, bool part, st
             HOLDS(next_length == 0, "no element has length 0");
             break;
         }
-        HOLDS(next >= at && next <= n && next_length <= n - next, "an element lies in the slice, behind those before it");
+        HOLDS(next >= at && next <= n && next_length <= n - next, "an element is in the slice, behind those before it");
         HOLDS(++steps <= n, "a list has no more elements than bytes");
         last_offset = next;
         last_length = next_length;
@@ -145,7 +145,7 @@ static void read_client(const uint8_t *s, size_t n, int decoded, size_t room, st
     offset = sudolog_big_endian(held(&answer) + 8);
     length = sudolog_big_endian(held(&answer) + 16);
     HOLDS(field == sudolog_member(SUDOLOG_CLIENT_MESSAGE, s, n), "the one walk finds the member");
-    HOLDS(offset <= n && length <= n - offset, "the one walk's place lies in the slice");
+    HOLDS(offset <= n && length <= n - offset, "the one walk's place is in the slice");
     HOLDS((uint64_t)scan.member == field && scan.content.offset == offset && scan.content.length == length, "the struct says it");
     if (field < 6 || field > 10) {
         HOLDS(offset == sudolog_offset(field, s, n) && length == sudolog_length(field, s, n), "the one walk finds its message");

@@ -1,5 +1,5 @@
 /*
- * session.h: the session, ticks, restarts and file checks, for tests/fuzz.c: a host that does its duties, or does not, over
+ * session.h: the session, ticks, restarts and file checks, for fuzz.c: a host that does its duties, or does not, over
  * messages of any kind. Every answer and every byte is compared with model.h.
  */
 #ifndef SESSION_H
@@ -131,7 +131,7 @@ static void keep_book(const struct outcome *o, const uint8_t *area)
         host.records = f.records;
         tally.restarts++;
         if (host.has_point && host.point > o->session.total)
-            host.point = o->session.total; /* the client asked for what lies behind it */
+            host.point = o->session.total; /* the client resumed behind it */
     } else if (o->record_n > 0) {
         host.records = o->member == SUDOLOG_FROM_CLIENT_ACCEPT ? 1 : host.records + 1;
     }
@@ -167,7 +167,7 @@ static void hand(size_t session_n, size_t area_n, size_t used, size_t room)
     if (session_n == 40)
         hand_struct(&o, area_n, used);
     count_outcome(&o, before);
-    if (o.record_n > 0) /* the used length may lie anywhere where nothing is stored */
+    if (o.record_n > 0) /* the used length may be anything where nothing is stored */
         memcpy(host.area + used, o.record, o.record_n);
     if (session_n == 40)
         put_saved(&o.session, host.session);
@@ -310,7 +310,7 @@ static void wrote(uint64_t written)
 
 static void make_restart(uint64_t point)
 {
-    wrote(sudolog_write_restart(SUDOLOG_FROM_CLIENT_RESTART, sudolog_text("log"), 3, point / SECOND, point % SECOND, 0,
+    wrote(sudolog_write_restart(SUDOLOG_FROM_CLIENT_RESTART, SUDOLOG_LEND_STRING("log"), point / SECOND, point % SECOND, 0,
                                 host.message, SMALL));
 }
 
@@ -421,7 +421,8 @@ static void make_timed(struct program *p)
     if (kind == 11)
         wrote(sudolog_write_window_size(kind, d / SECOND, d % SECOND, bytes[0] * n % 65536, n, 0, host.message, SMALL));
     else if (kind == 12)
-        wrote(sudolog_write_suspend(kind, d / SECOND, d % SECOND, sudolog_text("TSTPCONT"), 1 + n % 8, 0, host.message, SMALL));
+        wrote(sudolog_write_suspend(kind, d / SECOND, d % SECOND, SUDOLOG_LEND_TEXT("TSTPCONT", 1 + n % 8), 0, host.message,
+                                    SMALL));
     else
         wrote(sudolog_write_io(kind, d / SECOND, d % SECOND, bytes, n, 0, host.message, SMALL));
 }
@@ -430,7 +431,7 @@ static void make_exit(struct program *p)
 {
     uint8_t how = byte(p), bytes[TEXT];
     size_t n = text(p, bytes);
-    wrote(sudolog_write_exit(SUDOLOG_FROM_CLIENT_EXIT, how, how, how, how % 2, sudolog_text("SIGTERM"), how % 8, bytes, n, 0,
+    wrote(sudolog_write_exit(SUDOLOG_FROM_CLIENT_EXIT, how, how, how, how % 2, SUDOLOG_LEND_TEXT("SIGTERM", how % 8), bytes, n, 0,
                              host.message, SMALL));
 }
 
@@ -454,7 +455,9 @@ static void send_one(struct program *p)
     if (how >= 64 && saved_in(host.session, 40).state == SUDOLOG_STATE_CLOSED)
         come_back(how / 8);
     switch (how % 8) {
-    case 0: wrote(sudolog_write_client_hello(SUDOLOG_FROM_CLIENT_HELLO, sudolog_text("sudo"), 4, 0, host.message, SMALL)); break;
+    case 0:
+        wrote(sudolog_write_client_hello(SUDOLOG_FROM_CLIENT_HELLO, SUDOLOG_LEND_STRING("sudo"), 0, host.message, SMALL));
+        break;
     case 1: make_accept(p, how); break;
     case 3: make_exit(p); break;
     case 4: make_restart(some_total(how / 8)); break;

@@ -1,5 +1,5 @@
 /*
- * writing.h: the writers, for tests/fuzz.c: the refusal that the values ask for, what is written and what is not, with all
+ * writing.h: the writers, for tests/fuzzing/fuzz.c: the refusal that the values get, what is written and what is not, with all
  * the room that is needed and with a byte less, and that it reads back. Then messages that are none, and damage.
  */
 #ifndef WRITING_H
@@ -434,10 +434,10 @@ static size_t make_run(struct program *p, uint64_t of, uint8_t *run, bool *good)
         if (mask >> k & 1)
             continue; /* missing */
         if (mask >> (k + 4) & 1)
-            written = sudolog_write_entry_number(of, sudolog_text(keys[k]), strlen(keys[k]), k, 0, run + n, SMALL - n);
+            written = sudolog_write_entry_number(of, SUDOLOG_LEND_STRING(keys[k]), k, 0, run + n, SMALL - n);
         else
-            written = sudolog_write_entry_string(of, sudolog_text(keys[k]), strlen(keys[k]), sudolog_text("root"), 4, 0,
-                                                 run + n, SMALL - n);
+            written = sudolog_write_entry_string(of, SUDOLOG_LEND_STRING(keys[k]), SUDOLOG_LEND_STRING("root"), 0, run + n,
+                                                 SMALL - n);
         sudolog_add_written(written, &n);
     }
     for (k = 0; k < more % 4; k++) {

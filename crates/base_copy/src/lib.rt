@@ -8,6 +8,10 @@ ghost use lib.ListN.{length, take};
 ghost use Rattle.base_laws.specs.Base.{splice};
 ghost use Rattle.base_copy.specs.Block.{blockStored};
 ghost use Rattle.base_copy.specs.Copy.{fits, copied};
+ghost use Rattle.base_copy.specs.Put.{Put};
+
+// How many bytes are copied by way of an array.
+const PAGE: usize = 16384;
 
 // Bytes one after the other.
 fn copy_few(area: &mut [u8], at: usize, bytes: &[u8])
@@ -52,7 +56,7 @@ fn copy_page(area: &mut [u8], at: usize, bytes: &[u8])
     requires { ⌜ (at + length (now bytes) ≤ length (now area)) × (length (now bytes) ≡ 16384) ⌝ }
     ensures { λ _. ⌜ now (area .exit) ≡ splice (now (area .entry)) at (now (bytes .entry)) ⌝ }
 {
-    let mut page: [u8; 16384] = [0; 16384];
+    let mut page: [u8; PAGE] = [0; PAGE];
     copy_few(&mut page, 0, bytes);
     copy_few(area, at, &page);
 }
@@ -65,9 +69,9 @@ fn copy_pages(area: &mut [u8], at: usize, bytes: &[u8]) -> usize
 {
     let n = bytes.len();
     let mut j: usize = 0;
-    while 16384 <= n - j {
-        copy_page(area, at + j, &bytes[j..j + 16384]);
-        j += 16384;
+    while PAGE <= n - j {
+        copy_page(area, at + j, &bytes[j..j + PAGE]);
+        j += PAGE;
     }
     j
 }
@@ -109,7 +113,7 @@ fn copy_all(area: &mut [u8], at: usize, bytes: &[u8])
         copy_32(area, at + (n - 32), bytes, n - 32);
         return;
     }
-    if n < 16384 {
+    if n < PAGE {
         copy_many(area, at, bytes);
         return;
     }
@@ -129,4 +133,14 @@ pub fn copy_into(area: &mut [u8], at: usize, bytes: &[u8]) -> bool
     }
     copy_all(area, at, bytes);
     true
+}
+
+// The same where there is room, as callers put bytes one after the other: returns the place after them. It is for them: a host copies by
+// `copy_into`, which requires nothing.
+pub fn put_raw(out: &mut [u8], at: usize, d: &[u8]) -> usize
+    requires { ⌜ at + length (now d) ≤ length (now out) ⌝ }
+    ensures { λ r. ⌜ Put (now (out .entry)) at (now (d .entry)) (now (out .exit)) r ⌝ }
+{
+    copy_into(out, at, d);
+    at + d.len()
 }

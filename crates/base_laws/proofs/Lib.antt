@@ -3,3 +3,4 @@ pub mod Table
 pub mod Parts
 pub mod Tests
 pub mod Splice
+pub mod Lists

@@ -12,7 +12,7 @@ ghost use Rattle.base_numbers.specs.Eight.{eight, eights, laid, numberAt
 // A number with its eight bytes in the opposite order. The compiler has one instruction for it; so numbers go to and from a buffer
 // least significant byte first, as the machine moves them at once, and are turned here.
 fn turned(v: u64) -> u64
-    ensures { λ r. ⌜ r ≡ Rattle.base_numbers.specs.Eight.turned v ⌝ }
+    ensures { λ r. ⌜ r ≡ Rattle.base_numbers.specs.Eight.byteSwapped v ⌝ }
 {
     let a = v % 256 * 256 + v / 256 % 256;
     let b = v / 65536 % 256 * 256 + v / 16777216 % 256;
@@ -21,7 +21,7 @@ fn turned(v: u64) -> u64
     (a * 65536 + b) * 4294967296 + (c * 65536 + d)
 }
 
-// Lays a number into a buffer, eight bytes, most significant first. This is for the crates above, as the stores of `pieces` are:
+// Lays a number into a buffer, eight bytes, most significant first. This is for the crates above, as the stores of `write_pieces` are:
 // they show that there is room for it.
 pub fn put(out: &mut [u8], at: usize, v: u64)
     requires { ⌜ at + 8 ≤ length (now out) ⌝ }

@@ -1,4 +1,4 @@
--- What the functions for C answer: the paper's numbers for each case, and numbers as bytes.
+-- What the functions for C return: the paper's numbers for each case, and numbers as bytes.
 use Prim.Native.Nat.{ℕ, _-_}
 use mathlib.Core.List.{List, [], _∷_}
 use lib.Dec.{leb, eqb}
@@ -6,8 +6,8 @@ use Rattle.base_laws.specs.Base.{pick}
 use Rattle.wire_schema.specs.Schema.{ClientMessage, InfoMessage, ServerMessage}
 use Rattle.wire_fields.specs.Fields.{lastIn, memberFrom}
 use Rattle.base_numbers.specs.Eight.{laid}
-use Rattle.wire_walk_client.specs.declared.ClientRead.{ClientRead}
-use Rattle.wire_walk_client.specs.declared.ClientRead.the-variants as client
+use Rattle.wire_types.specs.declared.ClientRead.{ClientRead}
+use Rattle.wire_types.specs.declared.ClientRead.the-variants as client
 
 -- the member of a message that has a oneof: its fields 1 to 13, 1 to 5 or 2 to 5
 unfoldable pub memberOf : ℕ → List ℕ → ℕ

@@ -1,4 +1,4 @@
-// What C calls to read: functions on numbers and byte slices alone. include/sudolog.h declares them and says what each one answers.
+// What C calls to read: functions on numbers and byte slices alone. include/sudolog.h declares them and says what each one returns.
 // A `&[u8]` comes as a pointer and a length; a `&mut [u8]` is the buffer that the caller lends for more than one number.
 
 use base_numbers::lay_five;
@@ -11,10 +11,13 @@ use wire_fields::last_in;
 use wire_frame::count_of;
 use wire_frame::cut_frame;
 use wire_frame::state_of;
-use wire_walk_client::ClientRead;
+use wire_schema::CLIENT_MESSAGE;
+use wire_schema::INFO_MESSAGE;
+use wire_schema::SERVER_MESSAGE;
+use wire_types::ClientRead;
 ghost use mathlib.Core.Path.{_≡_};
 ghost use lib.ListN.{length};
-ghost use Rattle.wire_frame.specs.Frame.{cutOf, stateOf, countOf};
+ghost use Rattle.wire_frame.specs.Frame.{cutOf, frameState, countOf};
 ghost use Rattle.wire_fields.specs.Fields.{lastIn, memberFrom};
 ghost use Rattle.wire_walk_client.specs.Client.{clientOf};
 ghost use Rattle.wire.specs.Read.{decodeNumber, readNumber};
@@ -22,7 +25,7 @@ ghost use Rattle.c_read.specs.Answers.{memberOf, clientAnswer, clientBuf
 
 #[no_mangle]
 pub extern "C" fn sudolog_frame_state(s: &[u8]) -> u8
-    ensures { λ r. ⌜ r ≡ stateOf (cutOf (now (s .entry))) ⌝ }
+    ensures { λ r. ⌜ r ≡ frameState (cutOf (now (s .entry))) ⌝ }
 {
     state_of(cut_frame(s))
 }
@@ -67,13 +70,13 @@ fn member_among(s: &[u8], lo: u64, hi: u64) -> u64
 pub extern "C" fn sudolog_member(message: u8, s: &[u8]) -> u64
     ensures { λ r. ⌜ r ≡ memberOf message (now (s .entry)) ⌝ }
 {
-    if message == 0 {
+    if message == CLIENT_MESSAGE {
         return member_among(s, 1, 13);
     }
-    if message == 14 {
+    if message == SERVER_MESSAGE {
         return member_among(s, 1, 5);
     }
-    if message == 11 {
+    if message == INFO_MESSAGE {
         return member_among(s, 2, 5);
     }
     0

@@ -10,7 +10,7 @@ use Rattle.session.specs.Step.{Outcome, outcome, step}
 use Rattle.session.specs.declared.Session.{Session}
 use Rattle.session.specs.declared.Answer.{Answer}
 use Rattle.session_bytes.specs.Saved.{stateNumber, sessionOf, kept}
-use Rattle.c_session.specs.Session.{hasPoint, pointNumber, answerNumbers, taken, messageAnswer, messageSlice, messageArea, messageOut}
+use Rattle.c_session.specs.Session.{hasPoint, pointNumber, answerNumbers, stepped, messageAnswer, messageSlice, messageArea, messageOut}
 
 module _ (slice message area : Bytes) (used : ℕ) (out : Bytes) where
   -- what the four parts of the contract say
@@ -25,8 +25,8 @@ module _ (slice message area : Bytes) (used : ℕ) (out : Bytes) where
   no-room h = (rw (lt-leb 40 (length out) h), (rw (lt-leb 40 (length out) h), (rw (lt-leb 40 (length out) h), rw (lt-leb 40 (length out) h))))
 
   module _ (se : Session) (a : Answer) (slice′ area′ out′ : Bytes) (loaded : se ≡ sessionOf slice) (gives : outcome a area′ ≡ step se area used message) where
-    is : outcome a area′ ≡ taken slice message area used out
-    unfolding taken
+    is : outcome a area′ ≡ stepped slice message area used out
+    unfolding stepped
     is = gives ∙ ap (λ (x : Session). step x area used message) loaded
 
     pub answered : 40 ≤ length out → (p q n : ℕ) → slice′ ≡ kept (a .session) slice

@@ -1,4 +1,4 @@
--- What the session's functions for C answer.
+-- What the session's functions for C return.
 use Prim.Native.Nat.{ℕ}
 use mathlib.Core.List.{List, [], _∷_}
 use lib.ListN.{length}
@@ -28,20 +28,20 @@ answerNumbers o = o .used ∷ o .key ∷ hasPoint (o .point) ∷ pointNumber (o 
 
 -- one message, where the five numbers have room in `out`; else 12 and nothing is done
 module _ (slice message area : Bytes) (used : ℕ) (out : Bytes) where
-  unfoldable pub taken : Outcome
-  taken = step (sessionOf slice) area used message
+  unfoldable pub stepped : Outcome
+  stepped = step (sessionOf slice) area used message
 
   unfoldable pub messageAnswer : ℕ
-  messageAnswer = pick (leb 40 (length out)) (taken .refusal) 12
+  messageAnswer = pick (leb 40 (length out)) (stepped .refusal) 12
 
   unfoldable pub messageSlice : Bytes
-  messageSlice = pick (leb 40 (length out)) (kept (taken .session) slice) slice
+  messageSlice = pick (leb 40 (length out)) (kept (stepped .session) slice) slice
 
   unfoldable pub messageArea : Bytes
-  messageArea = pick (leb 40 (length out)) (taken .area) area
+  messageArea = pick (leb 40 (length out)) (stepped .area) area
 
   unfoldable pub messageOut : Bytes
-  messageOut = laid (answerNumbers taken) out
+  messageOut = laid (answerNumbers stepped) out
 
 -- a tick's point in nanoseconds; the greatest number of 64 bits for none, which no point is
 unfoldable pub tickNumber : Point → ℕ

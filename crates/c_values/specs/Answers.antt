@@ -1,4 +1,4 @@
--- What the functions for C that get at values answer: the paper's numbers for each case, and numbers as bytes.
+-- What the functions for C that get at values return: the paper's numbers for each case, and numbers as bytes.
 use Prim.Native.Nat.{ℕ, _-_}
 use mathlib.Core.List.{List, [], _∷_}
 use mathlib.Core.Path.{_≡_}
@@ -9,14 +9,14 @@ use Rattle.wire_fields.specs.declared.Found.the-variants as found
 use Rattle.base_numbers.specs.Eight.{laid}
 use Rattle.wire_elements.specs.Elements.{numbersAt}
 
--- where a list's next element lies; the greatest number of 64 bits and a length of 0 for none
+-- where a list's next element is; the greatest number of 64 bits and a length of 0 for none
 unfoldable pub offsetOf : Found → ℕ
 offsetOf (found.Part a e) = a
 offsetOf found.Nothing = 18446744073709551615
 
-unfoldable pub lengthOf : Found → ℕ
-lengthOf (found.Part a e) = e - a
-lengthOf found.Nothing = 0
+unfoldable pub foundLength : Found → ℕ
+foundLength (found.Part a e) = e - a
+foundLength found.Nothing = 0
 
 -- ---- sudolog_next_number
 

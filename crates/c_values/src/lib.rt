@@ -1,5 +1,5 @@
 // What C calls to get at values: the fields of a message and the elements of a list, one by one. include/sudolog.h declares these functions and
-// says what each one answers. They take numbers and byte slices alone, as those of `reading` do.
+// says what each one returns. They take numbers and byte slices alone, as those of `c_read` do.
 
 use base_numbers::lay_three;
 use wire_elements::Next;
@@ -14,7 +14,7 @@ ghost use Prim.Native.Nat.{_-_};
 ghost use lib.ListN.{length};
 ghost use Rattle.wire_fields.specs.Fields.{fieldsAt, numberIn, spanIn, firstOf};
 ghost use Rattle.wire_elements.specs.Elements.{numbersAt};
-ghost use Rattle.c_values.specs.Answers.{offsetOf, lengthOf, nextAnswer, NextBuffer};
+ghost use Rattle.c_values.specs.Answers.{offsetOf, foundLength, nextAnswer, NextBuffer};
 
 #[no_mangle]
 pub extern "C" fn sudolog_number(field: u64, s: &[u8]) -> u64
@@ -50,7 +50,7 @@ pub extern "C" fn sudolog_next_offset(field: u64, s: &[u8], at: usize) -> u64
 
 #[no_mangle]
 pub extern "C" fn sudolog_next_length(field: u64, s: &[u8], at: usize) -> u64
-    ensures { λ r. ⌜ r ≡ lengthOf (firstOf field (fieldsAt (now (s .entry)) at)) ⌝ }
+    ensures { λ r. ⌜ r ≡ foundLength (firstOf field (fieldsAt (now (s .entry)) at)) ⌝ }
 {
     match next_part(s, at, field) {
         Found::Part { start, end } => between(start, end),

@@ -14,14 +14,13 @@ use Rattle.wire.specs.Read.{value, clientMessage, received}
 use Rattle.file_format.specs.Record.{Record}
 use Rattle.file_format.specs.File.{fileBytes}
 use Rattle.session_turn.specs.Turn.{opening, recording, greeting, ending, alerting, turn}
-use Rattle.session.specs.Step.{Outcome, exitRecord, lengthsFit, growthRefusal, roomFor, timed, exitStored, onExit, act, inTurn, onReading, step}
+use Rattle.session.specs.Step.{Outcome, exitRecord, recordFor, lengthsFit, growthRefusal, roomFor, timed, exitStored, onExit, act, inTurn, onReading, step}
 use Rattle.session_turn.specs.declared.State.{State}
 use Rattle.session_turn.specs.declared.State.the-variants.{Logging}
 use Rattle.session.specs.declared.Session.{Session}
 use Rattle.session.proofs.Lengths.{within-area, lengths}
-use Rattle.claim_delivery.specs.Recording.{recordOf}
 use Rattle.claim_agreement.specs.Calls.{Host, answered}
-use Rattle.claim_agreement.specs.Agreement.{Agrees, added}
+use Rattle.claim_agreement.specs.Agreement.{Agrees}
 use Rattle.claim_agreement.proofs.Files.{file-more}
 
 module _ (h : Host) (logs : h .session .state ≡ Logging) (a : Agrees h) where
@@ -29,7 +28,7 @@ module _ (h : Host) (logs : h .session .state ≡ Logging) (a : Agrees h) where
   se = h .session
 
   abbrev Adds : List Record → Outcome → Type 0
-  Adds qs o = o .refusal ≡ 0 → take (o .used) (o .area) ≡ fileBytes (a .records ++ qs)
+  Adds qs o = o .refusal ≡ 0 → take (o .used) (o .area) ≡ fileBytes (a .holds .records ++ qs)
 
   within : lengthsFit (length (h .area)) (h .used) (se .used) ≡ true → h .used ≤ length (h .area)
   within l = within-area (length (h .area)) (h .used) (lengths (length (h .area)) (h .used) (se .used) l .0) .1
@@ -44,7 +43,7 @@ module _ (h : Host) (logs : h .session .state ≡ Logging) (a : Agrees h) where
       picked (Adds (r ∷ [])) (eqb (growthRefusal se (r .delay)) 0) _ _
       (λ _.
       picked (Adds (r ∷ [])) (roomFor se (h .area) (h .used) r) _ _
-      (λ _ _. file-more h a r (within l))
+      (λ _ _. file-more (h .area) (h .used) (a .holds) r (within l))
       (λ _ z. absurd (omega arith)))
       (λ n z. absurd (eqb-false (growthRefusal se (r .delay)) 0 n z)))
       (λ _ z. absurd (omega arith)))
@@ -59,7 +58,7 @@ module _ (h : Host) (logs : h .session .state ≡ Logging) (a : Agrees h) where
       picked (Adds (r ∷ [])) (exitFits e) _ _
       (λ _.
       picked (Adds (r ∷ [])) (roomFor se (h .area) (h .used) r) _ _
-      (λ _ _. file-more h a r (within l))
+      (λ _ _. file-more (h .area) (h .used) (a .holds) r (within l))
       (λ _ z. absurd (omega arith)))
       (λ _ z. absurd (omega arith)))
       (λ _ z. absurd (omega arith))
@@ -69,24 +68,24 @@ module _ (h : Host) (logs : h .session .state ≡ Logging) (a : Agrees h) where
   exit-adds-in e st q = rw q (exit-adds e)
 
   -- in its turn; all others are refused
-  logged : (c : Client) (d : Bytes) → Adds (added c) (inTurn se (h .area) (h .used) (turn Logging c) d c)
-  unfolding inTurn turn opening recording greeting ending alerting act added recordOf
+  logged : (c : Client) (d : Bytes) → Adds (recordFor d c) (inTurn se (h .area) (h .used) (turn Logging c) d c)
+  unfolding inTurn turn opening recording greeting ending alerting act recordFor
   logged (acceptMsg x) d = λ z. absurd (omega arith)
   logged (rejectMsg x) d = λ z. absurd (omega arith)
   logged (restartMsg x) d = λ z. absurd (omega arith)
   logged (helloMsg x) d = λ z. absurd (omega arith)
   logged (exitMsg e) d = exit-adds-in e (se .state) logs
-  logged (alertMsg x) d = picked (Adds []) (reportFits x) _ _ (λ _ _. a .used-bytes ∙ ap fileBytes (sym (append-nil (a .records)))) (λ _ z. absurd (omega arith))
+  logged (alertMsg x) d = picked (Adds []) (reportFits x) _ _ (λ _ _. a .holds .used-bytes ∙ ap fileBytes (sym (append-nil (a .holds .records)))) (λ _ z. absurd (omega arith))
   logged (ioBuf k i) d = timed-adds (ioFits i) _
   logged (winsizeEvent w) d = timed-adds (windowFits w) _
   logged (suspendEvent x) d = timed-adds (suspendFits x) _
 
-  in-state : (c : Client) (d : Bytes) (st : State) → st ≡ Logging → Adds (added c) (inTurn se (h .area) (h .used) (turn st c) d c)
+  in-state : (c : Client) (d : Bytes) (st : State) → st ≡ Logging → Adds (recordFor d c) (inTurn se (h .area) (h .used) (turn st c) d c)
   in-state c d st q = rw q (logged c d)
 
-  pub adds : (s : Bytes) (c : Client) → clientMessage s ≡ value c → Adds (added c) (answered h s)
+  pub adds : (s : Bytes) (c : Client) → clientMessage s ≡ value c → Adds (recordFor (received s) c) (answered h s)
   unfolding step onReading
   adds s c reads =
-      picked (Adds (added c)) (leb (length s) 2097152) _ _
+      picked (Adds (recordFor (received s) c)) (leb (length s) 2097152) _ _
       (λ _. rw reads (in-state c (received s) (se .state) logs))
       (λ _ z. absurd (omega arith))

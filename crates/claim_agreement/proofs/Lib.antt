@@ -1,4 +1,4 @@
-pub mod Reader
+pub mod Numbers
 pub mod Answers
 pub mod Files
 pub mod Steps

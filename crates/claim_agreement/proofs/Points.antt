@@ -17,14 +17,14 @@ use Rattle.file_format.proofs.Times.{exit-time}
 use Rattle.file_format.proofs.Appends.{kind-exit, total-snoc}
 use Rattle.file_format.proofs.Beginnings.{low-found, low-above}
 use Rattle.session_turn.specs.Turn.{ending, turn}
-use Rattle.session.specs.Step.{Outcome, exitRecord, lengthsFit, roomFor, exitStored, onExit, act, inTurn, onReading, step, loggingPoint, pointIn, tick}
+use Rattle.session.specs.Step.{Outcome, exitRecord, recordFor, lengthsFit, roomFor, exitStored, onExit, act, inTurn, onReading, step, loggingPoint, pointIn, tick}
 use Rattle.session_turn.specs.declared.State.{State}
 use Rattle.session_turn.specs.declared.State.the-variants.{Logging}
 use Rattle.session.specs.declared.Mark.{Mark}
 use Rattle.session.specs.declared.Point.the-variants as point
-use Rattle.claim_delivery.proofs.Values.{may-end}
+use Rattle.claim_values.proofs.Stored.{may-end}
 use Rattle.claim_agreement.specs.Calls.{Host, answered}
-use Rattle.claim_agreement.specs.Agreement.{markOf, Agrees, added, GreatestBelow, TickPoint, Exited}
+use Rattle.claim_agreement.specs.Agreement.{markOf, Agrees, GreatestBelow, TickPoint, Exited}
 
 -- ---- the greatest lower total
 
@@ -42,7 +42,7 @@ low-greatest rs h =
 
 module _ (h : Host) (logs : h .session .state ≡ Logging) (a : Agrees h) where
   abbrev rs : List Record
-  rs = a .records
+  rs = a .holds .records
 
   -- ---- a tick
 
@@ -51,9 +51,9 @@ module _ (h : Host) (logs : h .session .state ≡ Logging) (a : Agrees h) where
   unfolding tick pointIn
   tick-is T e =
       ap (λ (st : State). pointIn st (loggingPoint (h .session .mark) (h .session .total) (h .session .low))) logs
-      ∙ ap (λ (m : Mark). loggingPoint m (h .session .total) (h .session .low)) (a .carries-point ∙ ap markOf e)
-      ∙ ap (λ (n : ℕ). loggingPoint (markOf T) n (h .session .low)) (a .carries-total)
-      ∙ ap (loggingPoint (markOf T) (total rs)) (a .carries-low)
+      ∙ ap (λ (m : Mark). loggingPoint m (h .session .total) (h .session .low)) (a .carries .carries-point ∙ ap markOf e)
+      ∙ ap (λ (n : ℕ). loggingPoint (markOf T) n (h .session .low)) (a .carries .carries-total)
+      ∙ ap (loggingPoint (markOf T) (total rs)) (a .carries .carries-low)
 
   pub tick-point : TickPoint h rs
   unfolding markOf loggingPoint
@@ -65,12 +65,12 @@ module _ (h : Host) (logs : h .session .state ≡ Logging) (a : Agrees h) where
 
   -- ---- an exit
 
-  module _ (e : Exit) where
+  module _ (e : Exit) (d : Bytes) where
     abbrev Taken : Outcome → Type 0
-    Taken o = o .refusal ≡ 0 → Exited rs e o
+    Taken o = o .refusal ≡ 0 → Exited rs d e o
 
     exit-stored : Taken (exitStored (h .session) (h .area) (h .used) e)
-    unfolding exitStored added
+    unfolding exitStored recordFor
     exit-stored =
         let r : Record = exitRecord e in
         picked Taken (lengthsFit (length (h .area)) (h .used) (h .session .used)) _ _
@@ -79,8 +79,8 @@ module _ (h : Host) (logs : h .session .state ≡ Logging) (a : Agrees h) where
         (λ f.
         picked Taken (roomFor (h .session) (h .area) (h .used) r) _ _
         (λ _ _. record {
-          answers = ap point.At (a .carries-total);
-          is-finished = kind-exit rs r (a .is-unfinished) (may-end e f);
+          answers = ap point.At (a .carries .carries-total);
+          is-finished = kind-exit rs r (a .carries .is-unfinished) (may-end e f);
           same-total = omega (arith, total-snoc rs r, exit-time r (may-end e f));
         })
         (λ _ z. absurd (omega arith)))
@@ -91,13 +91,13 @@ module _ (h : Host) (logs : h .session .state ≡ Logging) (a : Agrees h) where
     unfolding onExit
     exit-on st q = rw q exit-stored
 
-    exit-turn : (d : Bytes) (st : State) → st ≡ Logging → Taken (inTurn (h .session) (h .area) (h .used) (ending st) d (exitMsg e))
+    exit-turn : (st : State) → st ≡ Logging → Taken (inTurn (h .session) (h .area) (h .used) (ending st) d (exitMsg e))
     unfolding inTurn ending act
-    exit-turn d st q = rw q (exit-on (h .session .state) logs)
+    exit-turn st q = rw q (exit-on (h .session .state) logs)
 
-    pub exits : (s : Bytes) → clientMessage s ≡ value (exitMsg e) → Taken (answered h s)
-    unfolding step onReading turn
-    exits s reads =
-        picked Taken (leb (length s) 2097152) _ _
-        (λ _. rw reads (exit-turn (received s) (h .session .state) logs))
-        (λ _ z. absurd (omega arith))
+  pub exits : (e : Exit) (s : Bytes) → clientMessage s ≡ value (exitMsg e) → Taken e (received s) (answered h s)
+  unfolding step onReading turn
+  exits e s reads =
+      picked (Taken e (received s)) (leb (length s) 2097152) _ _
+      (λ _. rw reads (exit-turn e (received s) (h .session .state) logs))
+      (λ _ z. absurd (omega arith))

@@ -1,6 +1,6 @@
 -- A session's points never fall: a tick's is at most the total, a record stored makes the total before it the next point, and a
 -- closed session stays closed.
-use Prim.Native.Nat.{ℕ, zero, suc, _+_, _≤_}
+use Prim.Native.Nat.{ℕ, zero, suc, _+_}
 use native.Mathlib.Omega.{arith}
 use mathlib.Core.Path.{_≡_, refl, sym, ap, subst, _∙_}
 use mathlib.Core.Logic.{_⊎_, inl, inr}
@@ -20,16 +20,16 @@ use Rattle.file_format.specs.File.{total}
 use Rattle.session_turn.specs.Turn.{opening, recording, greeting, ending, alerting, turn}
 use Rattle.session.specs.Step.{Outcome, exitRecord, grown, inState, lengthsFit, growthRefusal, roomFor, timed, exitStored, onExit, act, inTurn, onReading, step, loggingPoint, pointIn, tick}
 use Rattle.session_turn.specs.declared.State.{State}
-use Rattle.session_turn.specs.declared.State.the-variants.{New, Greeted, Logging, EventsOnly, Closed}
+use Rattle.session_turn.specs.declared.State.the-variants.{Logging, Closed}
 use Rattle.session.specs.declared.Session.{Session}
 use Rattle.session.specs.declared.Mark.the-variants as mark
 use Rattle.session.specs.declared.Point.{Point}
 use Rattle.session.specs.declared.Point.the-variants as point
-use Rattle.claim_agreement.specs.Calls.{Call, message, Host, answered, after, afterAll}
+use Rattle.claim_agreement.specs.Calls.{Call, message, Host, answered, after, afterAll, NoBreak, OneSession}
 use Rattle.claim_agreement.specs.Calls as call
 use Rattle.claim_agreement.specs.Agreement.{Agrees, Stands}
 use Rattle.claim_agreement.specs.Refusals.{Refused}
-use Rattle.claim_agreement.specs.Rising.{AtMost, Logs, Rising}
+use Rattle.claim_agreement.specs.Rising.{AtMost, Rising}
 use Rattle.claim_agreement.proofs.Answers.{never-at, refusals, no-point}
 use Rattle.claim_agreement.proofs.Steps.{call-stands}
 use Rattle.claim_agreement.proofs.Points.{tick-point, exits}
@@ -58,15 +58,15 @@ module _ (h : Host) (logs : h .session .state ≡ Logging) (a : Agrees h) where
   most : Most (tick se)
   most = by-restart (h .restartPoint) refl
     where
-      by-total : h .restartPoint ≡ none → (n : ℕ) → total (a .records) ≡ n → Most (tick se)
+      by-total : h .restartPoint ≡ none → (n : ℕ) → total (a .holds .records) ≡ n → Most (tick se)
       by-total e zero z = subst Most (sym (tick-point h logs a .at-zero e z)) tt
       by-total e (suc n) z =
           let b = tick-point h logs a .below e (omega arith) in
-          subst Most (sym (b .1)) (omega (arith, a .carries-total, b .2 .is-below))
+          subst Most (sym (b .1)) (omega (arith, a .carries .carries-total, b .2 .is-below))
 
       by-restart : (T : Option ℕ) → h .restartPoint ≡ T → Most (tick se)
-      by-restart none e = by-total e (total (a .records)) refl
-      by-restart (some t) e = subst Most (sym (tick-point h logs a .after-restart t e)) (omega (arith, a .carries-total, a .at-point t e))
+      by-restart none e = by-total e (total (a .holds .records)) refl
+      by-restart (some t) e = subst Most (sym (tick-point h logs a .after-restart t e)) (omega (arith, a .carries .carries-total, a .carries .at-point t e))
 
   tick-logs : tick se ≡ pointIn Logging (loggingPoint (se .mark) (se .total) (se .low))
   unfolding tick
@@ -149,11 +149,12 @@ module _ (h : Host) (logs : h .session .state ≡ Logging) (a : Agrees h) where
   unfolding step
   message-onward s = picked Onward (leb (length s) 2097152) _ _ (λ _. read-onward (received s) (clientMessage s)) (λ _. inl refl)
 
-  call-onward : (c : Call) → (after h c .session .state ≡ Closed) ⊎ ((after h c .session .state ≡ Logging) × AtMost (tick se) (tick (after h c .session)))
+  call-onward : (c : Call) → NoBreak c → (after h c .session .state ≡ Closed) ⊎ ((after h c .session .state ≡ Logging) × AtMost (tick se) (tick (after h c .session)))
   unfolding after
-  call-onward (message s) = message-onward s
-  call-onward call.tick = inr (logs, at-most-same (tick se))
-  call-onward (call.behind bs) = inr (logs, at-most-same (tick se))
+  call-onward (message s) n = message-onward s
+  call-onward call.tick n = inr (logs, at-most-same (tick se))
+  call-onward (call.behind bs) n = inr (logs, at-most-same (tick se))
+  call-onward call.break n = absurd n
 
   -- the exit's point is the total
   exit-rises : (s : Bytes) (t : ℕ) → answered h s .point ≡ point.At t → AtMost (tick se) (point.At t)
@@ -164,7 +165,7 @@ module _ (h : Host) (logs : h .session .state ≡ Logging) (a : Agrees h) where
       by-answer (inl z) =
           let e = no-point .messages se (h .area) (h .used) s t p in
           let x = exits h logs a (e .exit) s (e .is-exit) z in
-          subst (AtMost (tick se)) (ap point.At (a .carries-total) ∙ sym (x .answers) ∙ p) most
+          subst (AtMost (tick se)) (ap point.At (a .carries .carries-total) ∙ sym (x .answers) ∙ p) most
 
 -- ---- a closed session
 
@@ -192,16 +193,17 @@ module _ (h : Host) where
   shut-read q d (value c) = shut-in c d (h .session .state) q
   shut-read q d (refused n) = refl
 
-  shut-call : h .session .state ≡ Closed → (c : Call) → after h c .session .state ≡ Closed
+  shut-call : h .session .state ≡ Closed → (c : Call) → NoBreak c → after h c .session .state ≡ Closed
   unfolding after step
-  shut-call q (message s) = picked Shut (leb (length s) 2097152) _ _ (λ _. shut-read q (received s) (clientMessage s)) (λ _. refl)
-  shut-call q call.tick = q
-  shut-call q (call.behind bs) = q
+  shut-call q (message s) n = picked Shut (leb (length s) 2097152) _ _ (λ _. shut-read q (received s) (clientMessage s)) (λ _. refl)
+  shut-call q call.tick n = q
+  shut-call q (call.behind bs) n = q
+  shut-call q call.break n = absurd n
 
-stays-shut : (h : Host) (cs : List Call) → h .session .state ≡ Closed → afterAll h cs .session .state ≡ Closed
+stays-shut : (h : Host) (cs : List Call) → OneSession cs → h .session .state ≡ Closed → afterAll h cs .session .state ≡ Closed
 unfolding afterAll
-stays-shut h [] q = q
-stays-shut h (c ∷ cs) q = stays-shut (after h c) cs (shut-call h q c)
+stays-shut h [] n q = q
+stays-shut h (c ∷ cs) n q = stays-shut (after h c) cs (n .1) (shut-call h q c (n .0))
 
 not-both : (st : State) → st ≡ Closed → st ≡ Logging → ⊥
 not-both st q l = let e : Closed ≡ Logging = sym q ∙ l in let z : _≡_ {A = ℕ} 0 1 = cc in omega arith
@@ -209,25 +211,25 @@ not-both st q l = let e : Closed ≡ Logging = sym q ∙ l in let z : _≡_ {A =
 -- ---- any calls
 
 -- a call, and what follows it where the session is still in logging
-onward : (h : Host) (c : Call) (cs : List Call) → afterAll (after h c) cs .session .state ≡ Logging
+onward : (h : Host) (c : Call) (cs : List Call) → OneSession cs → afterAll (after h c) cs .session .state ≡ Logging
     → (after h c .session .state ≡ Logging → AtMost (tick (after h c .session)) (tick (afterAll (after h c) cs .session)))
     → (after h c .session .state ≡ Closed) ⊎ ((after h c .session .state ≡ Logging) × AtMost (tick (h .session)) (tick (after h c .session)))
     → AtMost (tick (h .session)) (tick (afterAll (after h c) cs .session))
-onward h c cs l rest (inl q) = absurd (not-both _ (stays-shut (after h c) cs q) l)
-onward h c cs l rest (inr m) = at-most-then (tick (h .session)) (tick (after h c .session)) _ (m .1) (rest (m .0))
+onward h c cs n l rest (inl q) = absurd (not-both _ (stays-shut (after h c) cs n q) l)
+onward h c cs n l rest (inr m) = at-most-then (tick (h .session)) (tick (after h c .session)) _ (m .1) (rest (m .0))
 
-rise : (h : Host) (cs : List Call) → Stands h → h .session .state ≡ Logging → afterAll h cs .session .state ≡ Logging
+rise : (h : Host) (cs : List Call) → OneSession cs → Stands h → h .session .state ≡ Logging → afterAll h cs .session .state ≡ Logging
     → AtMost (tick (h .session)) (tick (afterAll h cs .session))
 unfolding afterAll
-rise h [] i logs l = at-most-same (tick (h .session))
-rise h (c ∷ cs) i logs l =
-    onward h c cs l (λ m. rise (after h c) cs (call-stands h c i) m l) (call-onward h logs (in-logging h (h .session .state) logs i) c)
+rise h [] n i logs l = at-most-same (tick (h .session))
+rise h (c ∷ cs) n i logs l =
+    onward h c cs (n .1) l (λ m. rise (after h c) cs (n .1) (call-stands h c i) m l) (call-onward h logs (in-logging h (h .session .state) logs i) c (n .0))
 
 pub rising : Rising
 rising = record {
-  ticks = λ h cs g l. rise h cs (g .stands) (g .in-logging) l;
+  ticks = λ h cs n g l. rise h cs n (g .stands) (g .in-logging) l;
   exits = λ h s t g p. exit-rises h (g .in-logging) (in-logging h (h .session .state) (g .in-logging) (g .stands)) s t p;
-  restarts = λ h cs T g e l.
+  restarts = λ h cs T n g e l.
       let a : Agrees h = in-logging h (h .session .state) (g .in-logging) (g .stands) in
-      subst (λ (p : Point). AtMost p (tick (afterAll h cs .session))) (tick-point h (g .in-logging) a .after-restart T e) (rise h cs (g .stands) (g .in-logging) l);
+      subst (λ (p : Point). AtMost p (tick (afterAll h cs .session))) (tick-point h (g .in-logging) a .after-restart T e) (rise h cs n (g .stands) (g .in-logging) l);
 }

@@ -8,7 +8,7 @@ use Rattle.session.specs.Step.{tick}
 use Rattle.session_turn.specs.declared.State.the-variants.{Logging}
 use Rattle.session.specs.declared.Point.{Point}
 use Rattle.session.specs.declared.Point.the-variants as point
-use Rattle.claim_agreement.specs.Calls.{Call, Host, answered, afterAll}
+use Rattle.claim_agreement.specs.Calls.{Call, Host, answered, afterAll, OneSession}
 use Rattle.claim_agreement.specs.Agreement.{Stands}
 
 -- a point and a later one: once there is a point there is one, and no lower one
@@ -23,11 +23,11 @@ pub record Logs (h : Host) : Type 0 where
   pub in-logging : h .session .state ≡ Logging
 
 pub record Rising : Type 0 where
-  -- a tick's point after more calls, of any sender, while the session is in logging
-  pub ticks : (h : Host) (cs : List Call) → Logs h → afterAll h cs .session .state ≡ Logging
+  -- a tick's point after more calls, of any sender, while the session is in logging and its connection lasts
+  pub ticks : (h : Host) (cs : List Call) → OneSession cs → Logs h → afterAll h cs .session .state ≡ Logging
       → AtMost (tick (h .session)) (tick (afterAll h cs .session))
   -- the exit's point
   pub exits : (h : Host) (s : Bytes) (t : ℕ) → Logs h → answered h s .point ≡ point.At t → AtMost (tick (h .session)) (point.At t)
   -- so no tick's point is below that of a restart
-  pub restarts : (h : Host) (cs : List Call) (T : ℕ) → Logs h → h .restartPoint ≡ some T → afterAll h cs .session .state ≡ Logging
+  pub restarts : (h : Host) (cs : List Call) (T : ℕ) → OneSession cs → Logs h → h .restartPoint ≡ some T → afterAll h cs .session .state ≡ Logging
       → AtMost (point.At T) (tick (afterAll h cs .session))

@@ -16,12 +16,13 @@ use Rattle.file_format.proofs.Appends.{snoc, file-append, file-snoc, file-store
 use Rattle.file_format.proofs.Restarts.{keep-area}
 use Rattle.file_format.proofs.Beginnings.{meets-yes}
 use Rattle.session.specs.Step.{acceptRecord, exitRecord}
-use Rattle.claim_delivery.specs.Recording.{TimedRecord, Recording, recordOf, records, totalOf}
+use Rattle.claim_values.specs.Values.{TimedRecord, storedFor}
+use Rattle.claim_delivery.specs.Recording.{Recording, records, totalOf}
 use Rattle.claim_delivery.proofs.Totals.{kept, later, kept-later, keep-is}
 use Rattle.claim_delivery.proofs.Files.{map-append, begun, first, split-records, beginning-short}
 
 -- the used bytes of an area are these records
-pub record Lies (area : Bytes) (used : ℕ) (rs : List Record) : Type 0 where
+pub record Holds (area : Bytes) (used : ℕ) (rs : List Record) : Type 0 where
   pub shows : take used area ≡ fileBytes rs
   pub used-is : used ≡ length (fileBytes rs)
 
@@ -57,9 +58,9 @@ next-room R n r x =
     ∙ length-append (fileBytes (take n (records R))) (recordBytes r ++ fileBytes (x .post)) in
     omega (arith, length-append (recordBytes r) (fileBytes (x .post)))
 
-pub lies-next : (R : Recording) (n : ℕ) (r : Record) (area : Bytes) (used : ℕ) → n ≤ length (records R) → Next R n r → length (fileBytes (records R)) ≤ length area
-    → Lies area used (take n (records R)) → Lies (splice area used (recordBytes r)) (used + length (recordBytes r)) (take (suc n) (records R))
-lies-next R n r area used h x fits l =
+pub holds-next : (R : Recording) (n : ℕ) (r : Record) (area : Bytes) (used : ℕ) → n ≤ length (records R) → Next R n r → length (fileBytes (records R)) ≤ length area
+    → Holds area used (take n (records R)) → Holds (splice area used (recordBytes r)) (used + length (recordBytes r)) (take (suc n) (records R))
+holds-next R n r area used h x fits l =
     let rs : List Record = take n (records R) in
     let u : used ≡ length (fileBytes rs) = l .used-is in
     let full : length (fileBytes (snoc rs r)) ≡ length (fileBytes rs) + length (recordBytes r) =
@@ -72,19 +73,19 @@ lies-next R n r area used h x fits l =
     }
 
 pub size-next : (R : Recording) (n : ℕ) (r : Record) (area : Bytes) (used : ℕ) → Next R n r → length (fileBytes (records R)) ≤ length area
-    → Lies area used (take n (records R)) → length (splice area used (recordBytes r)) ≡ length area
+    → Holds area used (take n (records R)) → length (splice area used (recordBytes r)) ≡ length area
 size-next R n r area used x fits l = length-splice area used (recordBytes r) (omega (arith, l .used-is, next-room R n r x))
 
 -- ---- which records follow
 
 pub next-accept : (R : Recording) → Next R 0 (acceptRecord (R .accept))
 unfolding records
-next-accept R = record { post = map recordOf (R .timed) ++ (exitRecord (R .exit) ∷ []); joined = refl }
+next-accept R = record { post = map storedFor (R .timed) ++ (exitRecord (R .exit) ∷ []); joined = refl }
 
-pub next-timed : (R : Recording) (n : ℕ) (xs ys : List TimedRecord) (t : TimedRecord) → xs ++ t ∷ ys ≡ R .timed → n ≡ suc (length xs) → Next R n (recordOf t)
+pub next-timed : (R : Recording) (n : ℕ) (xs ys : List TimedRecord) (t : TimedRecord) → xs ++ t ∷ ys ≡ R .timed → n ≡ suc (length xs) → Next R n (storedFor t)
 next-timed R n xs ys t e k = record {
-  post = map recordOf ys ++ (exitRecord (R .exit) ∷ []);
-  joined = ap (λ (l : List Record). l ++ recordOf t ∷ (map recordOf ys ++ (exitRecord (R .exit) ∷ []))) (ap (λ (j : ℕ). take j (records R)) k ∙ first R xs (t ∷ ys) e)
+  post = map storedFor ys ++ (exitRecord (R .exit) ∷ []);
+  joined = ap (λ (l : List Record). l ++ storedFor t ∷ (map storedFor ys ++ (exitRecord (R .exit) ∷ []))) (ap (λ (j : ℕ). take j (records R)) k ∙ first R xs (t ∷ ys) e)
       ∙ sym (split-records R xs (t ∷ ys) e);
 }
 
@@ -110,12 +111,12 @@ unfolding total
 meets-begun R T xs h =
     ap (λ (l : List TimedRecord). meets T 0 (begun R l)) (sym (kept-later 0 T xs))
     ∙ ap (λ (l : List Record). meets T 0 (acceptRecord (R .accept) ∷ l)) (map-append (kept 0 T xs) (later 0 T xs))
-    ∙ meets-yes T (begun R (kept 0 T xs)) (map recordOf (later 0 T xs)) (omega (arith, accept-time (R .accept)))
+    ∙ meets-yes T (begun R (kept 0 T xs)) (map storedFor (later 0 T xs)) (omega (arith, accept-time (R .accept)))
 
 -- the used bytes after it
-pub lies-kept : (R : Recording) (T : ℕ) (xs ks : List TimedRecord) (area : Bytes) (used : ℕ) → kept 0 T xs ≡ ks → take (suc (length ks)) (records R) ≡ begun R ks
-    → Lies area used (begun R xs) → Lies area (length (fileBytes (keep T 0 (begun R xs)))) (take (suc (length ks)) (records R))
-lies-kept R T xs ks area used e f l =
+pub holds-kept : (R : Recording) (T : ℕ) (xs ks : List TimedRecord) (area : Bytes) (used : ℕ) → kept 0 T xs ≡ ks → take (suc (length ks)) (records R) ≡ begun R ks
+    → Holds area used (begun R xs) → Holds area (length (fileBytes (keep T 0 (begun R xs)))) (take (suc (length ks)) (records R))
+holds-kept R T xs ks area used e f l =
     let same : keep T 0 (begun R xs) ≡ take (suc (length ks)) (records R) = keep-begun R T xs ∙ ap (begun R) e ∙ sym f in
     record {
       shows = keep-area area T (begun R xs) (ap (λ (k : ℕ). take k area) (sym (l .used-is)) ∙ l .shows) ∙ ap fileBytes same;

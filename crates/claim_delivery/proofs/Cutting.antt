@@ -8,14 +8,13 @@ use lib.Dec.{ltb}
 use lib.ListN.{length, take, drop, length-append, length-drop}
 use lib.Seq.{take-append-le, drop-append-le, take-append-seam, drop-append-seam, drop-drop}
 use borrow.Author.Tests.{ltb-false, le-ltb, lt-ltb}
-use Rattle.base_laws.specs.Base.{pick}
+use Rattle.base_laws.specs.Base.{pick, All}
 use Rattle.wire_frame.specs.Frame.{lengthOf, largest, cutOf}
 use Rattle.wire_frame.specs.declared.Cut.{Cut}
 use Rattle.wire_frame.specs.declared.Cut.the-variants.{Wait, Frame, Refused}
 use Rattle.wire_message.specs.Message.{Bytes}
 use Rattle.file_format.specs.Digits.{digits, valueFrom}
 use Rattle.file_format.proofs.Numbers.{length-digits, value-digits}
-use Rattle.claim_delivery.specs.Recording.{All}
 use Rattle.claim_delivery.specs.Host.{frame, frames, Drained, drainCut, drain}
 
 abbrev pub Fits : Bytes → Type 0

@@ -7,17 +7,20 @@ use mathlib.Core.List.{List, [], _∷_, _++_, map, head-eq-of-cons-eq, tail-eq-o
 use lib.ListN.{length, take}
 use lib.Seq.{take-length}
 use borrow.Author.Tests.{eqb-true}
+use Rattle.base_laws.specs.Base.{All}
 use Rattle.wire_message.specs.Message.{Bytes}
 use Rattle.file_format.specs.Record.{Record}
 use Rattle.file_format.specs.File.{fileBytes, fileKind}
 use Rattle.file_format.proofs.Reading.{file-injective}
 use Rattle.session.specs.Step.{exitRecord}
-use Rattle.claim_delivery.specs.Recording.{TimedRecord, Recording, recordOf, records, All}
+use Rattle.claim_values.specs.Values.{TimedRecord, storedFor}
+use Rattle.claim_values.proofs.Stored.{StorableTimed}
+use Rattle.claim_values.proofs.Back.{same-timed, same-exit}
+use Rattle.claim_delivery.specs.Recording.{Recording, records}
 use Rattle.claim_delivery.specs.Host.{carries}
 use Rattle.claim_delivery.specs.World.{World, fresh, file}
 use Rattle.claim_delivery.specs.Demand.{Delivery, end, Carries, Demand3}
-use Rattle.claim_delivery.proofs.Values.{StorableTimed, Storable, same-timed, same-exit}
-use Rattle.claim_delivery.proofs.Files.{all-ranged, carries-none, carries-is}
+use Rattle.claim_delivery.proofs.Files.{Storable, all-ranged, carries-none, carries-is}
 use Rattle.claim_delivery.proofs.Reached.{Came, unopened, opened, came, reached}
 
 -- ---- a file tells its recording
@@ -30,12 +33,12 @@ snoc-same (a ∷ []) [] x y e = absurd (cons≢nil (tail-eq-of-cons-eq e))
 snoc-same (a ∷ c ∷ xs) [] x y e = absurd (cons≢nil (tail-eq-of-cons-eq e))
 snoc-same (a ∷ xs) (b ∷ ys) x y e = let h = head-eq-of-cons-eq e in let r = snoc-same xs ys x y (tail-eq-of-cons-eq e) in (cc, r .1)
 
-timed-same : (ts us : List TimedRecord) → All StorableTimed ts → All StorableTimed us → map recordOf ts ≡ map recordOf us → ts ≡ us
+timed-same : (ts us : List TimedRecord) → All StorableTimed ts → All StorableTimed us → map storedFor ts ≡ map storedFor us → ts ≡ us
 timed-same [] [] v w e = refl
 timed-same [] (u ∷ us) v w e = absurd (nil≢cons e)
 timed-same (t ∷ ts) [] v w e = absurd (cons≢nil e)
 timed-same (t ∷ ts) (u ∷ us) v w e =
-    let h : t ≡ u = same-timed t u (v .0) (w .0) (head-eq-of-cons-eq e) in
+    let h : t ≡ u = same-timed t u (v .0 .in-range) (w .0 .in-range) (head-eq-of-cons-eq e) in
     let r : ts ≡ us = timed-same ts us (v .1) (w .1) (tail-eq-of-cons-eq e) in
     λ i. h i ∷ r i
 
@@ -44,14 +47,14 @@ unfolding records
 same-file R Q v w e =
     let t : records R ≡ records Q = file-injective (records R) (records Q) (all-ranged R v) (all-ranged Q w) e in
     let a : R .accept ≡ Q .accept = ap (λ (r : Record). r .contents) (head-eq-of-cons-eq t) in
-    let u = snoc-same (map recordOf (R .timed)) (map recordOf (Q .timed)) (exitRecord (R .exit)) (exitRecord (Q .exit)) (tail-eq-of-cons-eq t) in
+    let u = snoc-same (map storedFor (R .timed)) (map storedFor (Q .timed)) (exitRecord (R .exit)) (exitRecord (Q .exit)) (tail-eq-of-cons-eq t) in
     let m : R .timed ≡ Q .timed = timed-same (R .timed) (Q .timed) (v .timed-storable) (w .timed-storable) (u .0) in
     let x : R .exit ≡ Q .exit = same-exit (R .exit) (Q .exit) (v .valid .exit-in-range) (w .valid .exit-in-range) (u .1) in
     λ i. record { accept = a i; timed = m i; exit = x i }
 
 module _ (d : Delivery) where
   shows : (a : ℕ) → file (end d) a ≡ fileBytes (take (end d .book a) (records (d .recording)))
-  shows a = reached d .areas a .lies .shows
+  shows a = reached d .areas a .holds .shows
 
   whole-file : (a : ℕ) → end d .book a ≡ length (records (d .recording)) → file (end d) a ≡ fileBytes (records (d .recording))
   whole-file a e = shows a ∙ ap (λ (k : ℕ). fileBytes (take k (records (d .recording)))) e ∙ ap fileBytes (take-length (records (d .recording)))

@@ -9,14 +9,15 @@ use mathlib.Core.List.{List, [], _∷_, _++_, append-assoc, append-nil, head-eq-
 use lib.Dec.{eqb}
 use lib.ListN.{length, take, length-append}
 use borrow.Author.Tests.{eq-eqb, ne-eqb, eqb-true, eqb-false}
-use Rattle.base_laws.specs.Base.{pick, both, splice}
+use Rattle.base_laws.specs.Base.{pick, both, All}
+use Rattle.base_laws.proofs.Lists.{all-append, all-right, all-map}
 use Rattle.wire_message.specs.Message.{Bytes, Restart, Client, acceptMsg, rejectMsg, exitMsg, restartMsg, alertMsg, ioBuf, winsizeEvent, suspendEvent, helloMsg}
 use Rattle.wire_range.specs.Range.{restartFits}
 use Rattle.wire.specs.Read.{value, clientMessage}
 use Rattle.file_format.specs.Record.{Record, recordBytes}
 use Rattle.file_format.specs.File.{recordsOf, fileBytes, total, fileKind}
-use Rattle.session.specs.Step.{Outcome, moment, acceptRecord, exitRecord, fromAccept, grown, carrying, withinArea, lengthsFit, atMark, refuse, taken, roomFor, step}
-use Rattle.session.specs.Answer.{mayOpen}
+use Rattle.session.specs.Step.{Outcome, moment, acceptRecord, exitRecord, fromAccept, grown, ended, carrying, withinArea, lengthsFit, atMark, refuse, taken, roomFor, stored, step}
+use Rattle.session.proofs.Turns.{mayOpen}
 use Rattle.session_turn.specs.declared.State.{State}
 use Rattle.session_turn.specs.declared.State.the-variants.{New, Greeted, Logging, Closed}
 use Rattle.session.specs.declared.Session.{Session}
@@ -24,14 +25,15 @@ use Rattle.session.specs.declared.Mark.{Mark}
 use Rattle.session.specs.declared.Mark.the-variants as mark
 use Rattle.session.specs.declared.Point.{Point}
 use Rattle.session.specs.declared.Point.the-variants as point
-use Rattle.claim_delivery.specs.Recording.{TimedRecord, io, window, suspend, Recording, recordOf, records, time, totalOf, All, acceptOf}
-use Rattle.claim_delivery.specs.Sender.{Sent, hello, accept, restart, timed, exit, rest, Reads, Says, Lines, member}
-use Rattle.claim_delivery.specs.Host.{countedMember, counted, booked, WholeRestart, carries, notedMember, noted, Answer, toTick, toMessage, Desk, hand, handAll}
+use Rattle.claim_values.specs.Values.{TimedRecord, io, window, suspend, storedFor, timedMember}
+use Rattle.claim_values.proofs.Stored.{StorableTimed, time-is}
+use Rattle.claim_delivery.specs.Recording.{Recording, records, time, totalOf, acceptOf}
+use Rattle.claim_delivery.specs.Sender.{Sent, hello, accept, restart, timed, exit, rest, Reads, Says, Lines}
+use Rattle.claim_delivery.specs.Host.{countedMember, counted, booked, WholeRestart, carries, notedMember, noted, Answer, toTick, toMessage, Desk, restartNote, deskAfter, hand, handAll}
 use Rattle.claim_delivery.specs.World.{isPoint, stoppedAfter}
 use Rattle.claim_delivery.proofs.Totals.{kept, later, kept-later, atMost-is, kept-beginning, kept-exact, HeadLater, later-head}
-use Rattle.claim_delivery.proofs.Values.{StorableTimed, Storable, time-is}
-use Rattle.claim_delivery.proofs.Files.{all-append, all-right, all-map, total-of-append, begun, first, size, Count, nothing, some-of, whole, count, beginning-short, begun-unfinished, read-begun, whole-finished, read-whole, carries-is}
-use Rattle.claim_delivery.proofs.Areas.{Lies, Next, next-below, next-room, lies-next, size-next, next-accept, next-timed, next-exit, meets-begun, lies-kept}
+use Rattle.claim_delivery.proofs.Files.{Storable, total-of-append, begun, first, size, Count, nothing, some-of, whole, count, beginning-short, begun-unfinished, read-begun, whole-finished, read-whole, carries-is}
+use Rattle.claim_delivery.proofs.Areas.{Holds, Next, next-below, next-room, holds-next, size-next, next-accept, next-timed, next-exit, meets-begun, holds-kept}
 use Rattle.claim_delivery.proofs.Steps.{within-area, lengths-fit, room-for, step-hello, step-accept, step-timed, step-exit, step-restart, resumes, step-finished, step-closed}
 
 -- ---- commit points
@@ -126,7 +128,7 @@ RestartOk r = r .taken ≡ not (r .carried)
 
 -- c is the area's length
 pub record Inv (R : Recording) (c : ℕ) (p : Option ℕ) (ms : List Sent) (d : Desk) : Type 0 where
-  pub lies : Lies (d .area) (d .used) (take (d .n) (records R))
+  pub holds : Holds (d .area) (d .used) (take (d .n) (records R))
   pub sized : length (d .area) ≡ c
   pub within : d .n ≤ length (records R)
   pub restarts-ok : All RestartOk (d .restarts)
@@ -137,41 +139,41 @@ pub record Inv (R : Recording) (c : ℕ) (p : Option ℕ) (ms : List Sent) (d : 
 -- ---- a timed record
 
 -- one with delay zero is never sent at a restart point
-not-at-mark : (R : Recording) (n : ℕ) (se : Session) (t : TimedRecord) (ys : List TimedRecord) (m : Mark) → time t ≡ recordOf t .delay
-    → MarkOk R n (t ∷ ys) (se .total) (se .low) m → both (eqb (recordOf t .delay) 0) (atMark m (se .total)) ≡ false
+not-at-mark : (R : Recording) (n : ℕ) (se : Session) (t : TimedRecord) (ys : List TimedRecord) (m : Mark) → time t ≡ storedFor t .delay
+    → MarkOk R n (t ∷ ys) (se .total) (se .low) m → both (eqb (storedFor t .delay) 0) (atMark m (se .total)) ≡ false
 unfolding atMark
-not-at-mark R n se t ys mark.Nothing h k = go (eqb (recordOf t .delay) 0)
+not-at-mark R n se t ys mark.Nothing h k = go (eqb (storedFor t .delay) 0)
   where
     go : (b : Bool) → both b false ≡ false
     go true = refl
     go false = refl
-not-at-mark R n se t ys (mark.At T) h k = rw (ne-eqb (recordOf t .delay) 0 (λ e. let z = k .1 in omega arith))
+not-at-mark R n se t ys (mark.At T) h k = rw (ne-eqb (storedFor t .delay) 0 (λ e. let z = k .1 in omega arith))
 
 -- the marks after it
 module _ (R : Recording) (n : ℕ) (se : Session) (t : TimedRecord) (xs ys : List TimedRecord) (split : xs ++ t ∷ ys ≡ R .timed) (n-is : n ≡ suc (length xs))
-    (total-is : se .total ≡ totalOf xs) (delay-is : time t ≡ recordOf t .delay) where
-  pub total-after : se .total + recordOf t .delay ≡ totalOf (xs ++ (t ∷ []))
+    (total-is : se .total ≡ totalOf xs) (delay-is : time t ≡ storedFor t .delay) where
+  pub total-after : se .total + storedFor t .delay ≡ totalOf (xs ++ (t ∷ []))
   unfolding total
   total-after = omega (arith, total-of-append xs (t ∷ []))
 
-  kept-all : 0 < recordOf t .delay → kept 0 (se .total) (R .timed) ≡ xs
+  kept-all : 0 < storedFor t .delay → kept 0 (se .total) (R .timed) ≡ xs
   kept-all h =
       ap (λ (k : ℕ). kept 0 k (R .timed)) (total-is ∙ zero-plus (totalOf xs)) ∙ ap (kept 0 (0 + totalOf xs)) (sym split) ∙ kept-exact 0 xs t ys (omega arith)
     where
       zero-plus : (a : ℕ) → a ≡ 0 + a
       zero-plus a = omega arith
 
-  marks-after : MarkOk R n (t ∷ ys) (se .total) (se .low) (se .mark) → (b : Bool) → eqb (recordOf t .delay) 0 ≡ b
-      → MarkOk R (suc n) ys (se .total + recordOf t .delay) (pick b (se .low) (se .total)) (pick b (se .mark) mark.Nothing)
+  marks-after : MarkOk R n (t ∷ ys) (se .total) (se .low) (se .mark) → (b : Bool) → eqb (storedFor t .delay) 0 ≡ b
+      → MarkOk R (suc n) ys (se .total + storedFor t .delay) (pick b (se .low) (se .total)) (pick b (se .mark) mark.Nothing)
   unfolding total
-  marks-after m true e = still (se .mark) (eqb-true (recordOf t .delay) 0 e) m
+  marks-after m true e = still (se .mark) (eqb-true (storedFor t .delay) 0 e) m
     where
-      still : (x : Mark) → recordOf t .delay ≡ 0 → MarkOk R n (t ∷ ys) (se .total) (se .low) x → MarkOk R (suc n) ys (se .total + recordOf t .delay) (se .low) x
+      still : (x : Mark) → storedFor t .delay ≡ 0 → MarkOk R n (t ∷ ys) (se .total) (se .low) x → MarkOk R (suc n) ys (se .total + storedFor t .delay) (se .low) x
       still mark.Nothing z h = λ pos. good-more (suc n) (omega arith) (h (omega arith))
       still (mark.At T) z h = absurd (let k = h .1 in omega arith)
   marks-after m false e =
-      let z : recordOf t .delay ≡ 0 → ⊥ = eqb-false (recordOf t .delay) 0 e in
-      let pos : 0 < recordOf t .delay = omega arith in
+      let z : storedFor t .delay ≡ 0 → ⊥ = eqb-false (storedFor t .delay) 0 e in
+      let pos : 0 < storedFor t .delay = omega arith in
       λ h. record {
         reached = ap totalOf (kept-all pos) ∙ sym total-is;
         held = omega (arith, ap length (kept-all pos));
@@ -179,39 +181,32 @@ module _ (R : Recording) (n : ℕ) (se : Session) (t : TimedRecord) (xs ys : Lis
       }
 
 -- in the book and in the log
-counts-timed : (R : Recording) (t : TimedRecord) (n : ℕ) → countedMember R (member t) n ≡ suc n
-unfolding countedMember member
+counts-timed : (R : Recording) (t : TimedRecord) (n : ℕ) → countedMember R (timedMember t) n ≡ suc n
+unfolding countedMember timedMember
 counts-timed R (io k i) n = refl
 counts-timed R (window w) n = refl
 counts-timed R (suspend x) n = refl
 
-notes-timed : (t : TimedRecord) (w : WholeRestart) → notedMember (member t) w ≡ []
-unfolding notedMember member
+notes-timed : (t : TimedRecord) (w : WholeRestart) → notedMember (timedMember t) w ≡ []
+unfolding notedMember timedMember
 notes-timed (io k i) w = refl
 notes-timed (window x) w = refl
 notes-timed (suspend x) w = refl
 
 -- ---- one message
 
--- whatever the sender says reads as some member
+-- whatever the sender says reads as some timedMember
 pub reads-some : (s : Bytes) (m : Sent) → Says s m → (c : Client) × Reads s c
 reads-some s hello y = (helloMsg (y .0), y .1)
 reads-some s (accept a) y = (_, y .0)
 reads-some s (restart T) y = (restartMsg (y .values), y .reads)
-reads-some s (timed t) y = (member t, y)
+reads-some s (timed t) y = (timedMember t, y)
 reads-some s (exit e) y = (exitMsg e, y)
 
 module _ (R : Recording) (storable : Storable R) (c : ℕ) (fits : length (fileBytes (records R)) ≤ c) (small : c ≤ 1073741824) where
   -- the desk after a message, where what the session gives and the book are known
   after : Client → Desk → Outcome → ℕ → Desk
-  after m d o n = record {
-    session = o .session;
-    area = o .area;
-    used = o .used;
-    n = n;
-    restarts = d .restarts ++ notedMember m (record { taken = eqb (o .refusal) 0; carried = carries (fileKind (take (d .used) (d .area))) });
-    out = d .out ++ (toMessage (o .refusal) (o .point) ∷ []);
-  }
+  after m d o n = deskAfter d o n (notedMember m (restartNote d o))
 
   hand-is : (s : Bytes) (m : Client) (d : Desk) (o : Outcome) (n : ℕ) → clientMessage s ≡ value m → step (d .session) (d .area) (d .used) s ≡ o
       → booked R (value m) (d .n) ≡ n → hand R s d ≡ after m d o n
@@ -234,10 +229,10 @@ module _ (R : Recording) (storable : Storable R) (c : ℕ) (fits : length (fileB
     carried = carries (fileKind (take (d .used) (d .area)))
 
     carried-is : carried ≡ eqb (d .n) (length (records R))
-    carried-is = rw (i .lies .shows) (carries-is R storable (d .n) (i .within))
+    carried-is = rw (i .holds .shows) (carries-is R storable (d .n) (i .within))
 
     used-fits : d .used ≤ length (d .area)
-    used-fits = omega (arith, i .lies .used-is, beginning-short R (d .n), i .sized)
+    used-fits = omega (arith, i .holds .used-is, beginning-short R (d .n), i .sized)
 
     within : withinArea (length (d .area)) (d .used) ≡ true
     within = within-area (d .session) (d .area) (d .used) s (omega (arith, i .sized)) used-fits
@@ -246,30 +241,30 @@ module _ (R : Recording) (storable : Storable R) (c : ℕ) (fits : length (fileB
     lengths want e = lengths-fit (d .session) (d .area) (d .used) s want within e
 
     room : (r : Record) → Next R (d .n) r → length (r .contents) ≤ 2097152 → roomFor (d .session) (d .area) (d .used) r ≡ true
-    room r x h = room-for (d .session) (d .area) (d .used) s r h (omega (arith, i .lies .used-is, next-room R (d .n) r x, i .sized))
+    room r x h = room-for (d .session) (d .area) (d .used) s r h (omega (arith, i .holds .used-is, next-room R (d .n) r x, i .sized))
 
     -- a record that was stored
     stored-to : (m : Client) (r : Record) (se : Session) (pt : Point) → clientMessage s ≡ value m → Next R (d .n) r → countedMember R m (d .n) ≡ suc (d .n)
         → ((w : WholeRestart) → notedMember m w ≡ [])
-        → step (d .session) (d .area) (d .used) s
-        ≡ record { refusal = 0; key = 0; point = pt; session = se; used = d .used + length (recordBytes r); area = splice (d .area) (d .used) (recordBytes r) }
+        → se .used ≡ d .used + length (recordBytes r)
+        → step (d .session) (d .area) (d .used) s ≡ carrying pt se (stored (d .session) (d .area) (d .used) r)
         → MessageOk R (suc (d .n)) 0 pt
         → ((e : Desk) → e .session ≡ se → e .used ≡ d .used + length (recordBytes r) → e .n ≡ suc (d .n) → Stage R p ms e)
         → To
     unfolding after
-    stored-to m r se pt read x counts quiet gives ok st =
+    stored-to m r se pt read x counts quiet ends gives ok st =
         let below : d .n < length (records R) = next-below R (d .n) r (i .within) x in
-        let o : Outcome = record { refusal = 0; key = 0; point = pt; session = se; used = d .used + length (recordBytes r); area = splice (d .area) (d .used) (recordBytes r) } in
+        let o : Outcome = carrying pt se (stored (d .session) (d .area) (d .used) r) in
         rw (hand-is s m d o (suc (d .n)) read gives (book-counts m (d .n) below ∙ counts))
         (record {
-          lies = lies-next R (d .n) r (d .area) (d .used) (i .within) x (omega (arith, i .sized)) (i .lies);
-          sized = size-next R (d .n) r (d .area) (d .used) x (omega (arith, i .sized)) (i .lies) ∙ i .sized;
+          holds = rw ends (holds-next R (d .n) r (d .area) (d .used) (i .within) x (omega (arith, i .sized)) (i .holds));
+          sized = size-next R (d .n) r (d .area) (d .used) x (omega (arith, i .sized)) (i .holds) ∙ i .sized;
           within = omega arith;
           restarts-ok = all-append RestartOk (d .restarts) _ (i .restarts-ok) (rw (quiet (record { taken = true; carried = carried })) tt);
           out-ok = all-append (AnswerOk R (suc (d .n))) (d .out) (toMessage 0 pt ∷ [])
               (all-map (AnswerOk R (d .n)) (AnswerOk R (suc (d .n))) (answer-more R (d .n) (suc (d .n)) (omega arith) (omega arith)) (d .out) (i .out-ok)) (ok, tt);
           point-ok = point-more R (d .n) (suc (d .n)) (omega arith) p (i .point-ok);
-          stage = st (after m d o (suc (d .n))) refl refl refl;
+          stage = st (after m d o (suc (d .n))) refl ends refl;
         })
 
     -- the accept
@@ -278,8 +273,8 @@ module _ (R : Recording) (storable : Storable R) (c : ℕ) (fits : length (fileB
     accept-to y o e z =
         let a : Record = acceptRecord (R .accept) in
         let x : Next R (d .n) a = rw z (next-accept R) in
-        let u : d .used ≡ 0 = i .lies .used-is ∙ ap (λ (k : ℕ). length (fileBytes (take k (records R)))) z in
-        stored-to (acceptMsg (acceptOf R)) a (fromAccept (d .used + length (recordBytes a))) point.Absent (y .0 .read) x refl (λ w. refl)
+        let u : d .used ≡ 0 = i .holds .used-is ∙ ap (λ (k : ℕ). length (fileBytes (take k (records R)))) z in
+        stored-to (acceptMsg (acceptOf R)) a (fromAccept (d .used + length (recordBytes a))) point.Absent (y .0 .read) x refl (λ w. refl) refl
         (step-accept (d .session) (d .area) (d .used) s R (storable .valid) (y .0) (y .1) o (lengths 0 u) (room a x (storable .accept-small)))
         (unpointed R (suc (d .n)) 0 (λ b. absurd (never b)))
         (λ f se us k. logging (record {
@@ -301,14 +296,14 @@ module _ (R : Recording) (storable : Storable R) (c : ℕ) (fits : length (fileB
         let xs : List TimedRecord = l .stored-ones in
         let split : xs ++ t ∷ ys ≡ R .timed = ap (λ (z : List TimedRecord). xs ++ z) (sym e) ∙ l .split in
         let v : StorableTimed t = all-right StorableTimed xs (t ∷ ys) (rw split (storable .timed-storable)) .0 in
-        let x : Next R (d .n) (recordOf t) = next-timed R (d .n) xs ys t split (l .n-is) in
-        let delay : time t ≡ recordOf t .delay = time-is t v in
+        let x : Next R (d .n) (storedFor t) = next-timed R (d .n) xs ys t split (l .n-is) in
+        let delay : time t ≡ storedFor t .delay = time-is t v in
         let sums : totalOf xs + (time t + totalOf ys) ≡ totalOf (R .timed) = sym (total-of-append xs (t ∷ ys)) ∙ ap totalOf split in
         let marks : MarkOk R (d .n) (t ∷ ys) (d .session .total) (d .session .low) (d .session .mark) = rw e at (l .mark-ok) in
-        let after-it = marks-after R (d .n) (d .session) t xs ys split (l .n-is) (l .total-is) delay marks (eqb (recordOf t .delay) 0) refl in
-        stored-to (member t) (recordOf t) (grown (d .session) (d .used + length (recordBytes (recordOf t))) (recordOf t .delay)) point.Absent (y .read) x (counts-timed R t (d .n)) (notes-timed t)
+        let after-it = marks-after R (d .n) (d .session) t xs ys split (l .n-is) (l .total-is) delay marks (eqb (storedFor t .delay) 0) refl in
+        stored-to (timedMember t) (storedFor t) (grown (d .session) (d .used + length (recordBytes (storedFor t))) (storedFor t .delay)) point.Absent (y .read) x (counts-timed R t (d .n)) (notes-timed t) refl
         (step-timed (d .session) (d .area) (d .used) s t y (v .in-range) (l .state-is) (lengths (d .session .used) (l .used-same))
-        (omega (arith, l .total-is, storable .valid .within-limit)) (not-at-mark R (d .n) (d .session) t ys (d .session .mark) delay marks) (room (recordOf t) x (v .small)))
+        (omega (arith, l .total-is, storable .valid .within-limit)) (not-at-mark R (d .n) (d .session) t ys (d .session .mark) delay marks) (room (storedFor t) x (v .small)))
         (unpointed R (suc (d .n)) 0 (λ b. absurd (never b)))
         (λ f se us k. logging (record {
           stored-ones = xs ++ (t ∷ []);
@@ -333,8 +328,8 @@ module _ (R : Recording) (storable : Storable R) (c : ℕ) (fits : length (fileB
         let x : Next R (d .n) r = next-exit R (d .n) n-is in
         let full : suc (d .n) ≡ length (records R) = omega (arith, size R) in
         stored-to (exitMsg (R .exit)) r
-        (record { state = Closed; used = d .used + length (recordBytes r); total = d .session .total; low = d .session .low; mark = d .session .mark })
-        (point.At (d .session .total)) (y .read) x refl (λ w. refl)
+        (ended (d .session) (d .used + length (recordBytes r)))
+        (point.At (d .session .total)) (y .read) x refl (λ w. refl) refl
         (step-exit (d .session) (d .area) (d .used) s (R .exit) y (storable .valid .exit-in-range) (l .state-is) (lengths (d .session .used) (l .used-same)) (room r x (storable .exit-small)))
         (record { is-total = λ T q. sym (at-same q) ∙ l .total-is ∙ ap totalOf all-of; is-whole = λ q. full })
         (λ f se us k. over (ap (λ (q : Session). q .state) se) (k ∙ full))
@@ -349,7 +344,7 @@ module _ (R : Recording) (storable : Storable R) (c : ℕ) (fits : length (fileB
         rw (hand-is s (helloMsg (y .0)) d (taken (d .session) (d .area) (d .used) Greeted) (d .n) (y .1 .read)
         (step-hello (d .session) (d .area) (d .used) s (y .0) (y .1) h) (same (d .n) (eqb (d .n) (length (records R)))))
         (record {
-          lies = i .lies;
+          holds = i .holds;
           sized = i .sized;
           within = i .within;
           restarts-ok = all-append RestartOk (d .restarts) [] (i .restarts-ok) tt;
@@ -379,7 +374,7 @@ module _ (R : Recording) (storable : Storable R) (c : ℕ) (fits : length (fileB
     refused-to m k r z gives e =
         rw (hand-is s m d (refuse (d .session) (d .area) (d .used) k 0) (d .n) (r .read) gives (book-stays m (d .n) e))
         (record {
-          lies = i .lies;
+          holds = i .holds;
           sized = i .sized;
           within = i .within;
           restarts-ok = all-append RestartOk (d .restarts) (notedMember m (record { taken = eqb k 0; carried = carried })) (i .restarts-ok)
@@ -408,7 +403,7 @@ module _ (R : Recording) (storable : Storable R) (c : ℕ) (fits : length (fileB
     restart-finished : (v : Restart) → Reads s (restartMsg v) → restartFits v ≡ true → mayOpen (d .session .state) ≡ true → d .n ≡ length (records R) → To
     restart-finished v r h o k =
         refused-to (restartMsg v) 13 r refl
-        (step-finished (d .session) (d .area) (d .used) s v r h o within (records R) (ap recordsOf (i .lies .shows) ∙ read-whole R storable (d .n) k) (whole-finished R storable))
+        (step-finished (d .session) (d .area) (d .used) s v r h o within (records R) (ap recordsOf (i .holds .shows) ∙ read-whole R storable (d .n) k) (whole-finished R storable))
         k
 
     -- a restart that is taken
@@ -422,17 +417,17 @@ module _ (R : Recording) (storable : Storable R) (c : ℕ) (fits : length (fileB
         let len : length xs + length ys ≡ length (R .timed) = sym (length-append xs ys) ∙ ap length e in
         let below : d .n < length (records R) = omega (arith, size R) in
         let same : kept 0 T xs ≡ K = rw (← e) (kept-beginning 0 T xs ys (rw e (omega (arith, g .held)))) in
-        let file : Lies (d .area) (d .used) (begun R xs) = rw (ap (λ (z : ℕ). take z (records R)) k ∙ first R xs ys e) at (i .lies) in
+        let file : Holds (d .area) (d .used) (begun R xs) = rw (ap (λ (z : ℕ). take z (records R)) k ∙ first R xs ys e) at (i .holds) in
         let is-first : take (suc (length K)) (records R) ≡ begun R K = first R K (later 0 T (R .timed)) (kept-later 0 T (R .timed)) in
         let good : Good R (suc (length K)) T = record { reached = g .reached; held = omega arith; below = g .below } in
         let se : Session = resumes (d .session) (d .area) (d .used) s T (begun R xs) in
         rw (hand-is s (restartMsg v) d (carrying point.Absent se (d .area)) (suc (length K)) (r .read)
         (step-restart (d .session) (d .area) (d .used) s v r h o within (begun R xs)
-        (ap recordsOf (i .lies .shows) ∙ ap (λ (z : ℕ). recordsOf (fileBytes (take z (records R)))) k ∙ read-begun R storable xs ys e) (begun-unfinished R storable xs ys e)
+        (ap recordsOf (i .holds .shows) ∙ ap (λ (z : ℕ). recordsOf (fileBytes (take z (records R)))) k ∙ read-begun R storable xs ys e) (begun-unfinished R storable xs ys e)
         (meets-begun R T xs (ap totalOf same ∙ g .reached)))
         (book-counts (restartMsg v) (d .n) below ∙ ap suc (atMost-is 0 T (R .timed))))
         (record {
-          lies = lies-kept R T xs K (d .area) (d .used) same is-first file;
+          holds = holds-kept R T xs K (d .area) (d .used) same is-first file;
           sized = i .sized;
           within = omega (arith, g .held);
           restarts-ok = all-append RestartOk (d .restarts) (record { taken = true; carried = carried } ∷ []) (i .restarts-ok)

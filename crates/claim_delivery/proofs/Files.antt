@@ -8,69 +8,61 @@ use lib.Dec.{leb, eqb}
 use lib.ListN.{length, take, drop, length-append, take-append-drop}
 use lib.Seq.{take-append-seam, length-take-le, take-all}
 use borrow.Author.Tests.{leb-true, leb-false, eq-eqb, ne-eqb}
+use Rattle.base_laws.specs.Base.{All}
+use Rattle.base_laws.proofs.Lists.{all-left}
 use Rattle.file_format.specs.Record.{Record}
-use Rattle.file_format.specs.File.{Records, all, recordsOf, fileBytes, limit, total, unfinished, finished, restKind, recordsKind, kindOf, fileKind}
+use Rattle.file_format.specs.File.{Records, all, recordsOf, fileBytes, limit, total, unfinished, finished, restKind, recordsKind, kindOfRecords, fileKind}
 use Rattle.file_format.proofs.Times.{rest-cons, accept-cons}
 use Rattle.file_format.proofs.Reading.{InRange, Ranged, no-records, one-more, records-of-file}
 use Rattle.file_format.proofs.Appends.{file-append, ranged-append, kind-exit, total-append}
 use Rattle.session.specs.Step.{acceptRecord, exitRecord}
-use Rattle.claim_delivery.specs.Recording.{TimedRecord, Recording, recordOf, records, time, totalOf, All}
+use Rattle.claim_values.specs.Values.{TimedRecord, storedFor}
+use Rattle.claim_values.proofs.Stored.{Small, StorableTimed, timed-ranged, time-is, may-follow, exit-ranged, may-end}
+use Rattle.claim_delivery.specs.Recording.{Recording, records, time, totalOf, Valid}
 use Rattle.claim_delivery.specs.Host.{carries}
-use Rattle.claim_delivery.proofs.Values.{StorableTimed, Storable, timed-ranged, time-is, may-follow, exit-ranged, may-end}
 
--- ---- lists
+-- a valid recording whose data are not too long: those that some messages say (Sizes)
+pub record Storable (R : Recording) : Type 0 where
+  pub valid : Valid R
+  pub accept-small : Small (acceptRecord (R .accept))
+  pub timed-storable : All StorableTimed (R .timed)
+  pub exit-small : Small (exitRecord (R .exit))
 
-pub all-append : {A : Type 0} (P : A → Type 0) (xs ys : List A) → All P xs → All P ys → All P (xs ++ ys)
-all-append P [] ys p q = q
-all-append P (x ∷ xs) ys p q = (p .0, all-append P xs ys (p .1) q)
+-- ---- timed records, one after the other
 
-pub all-right : {A : Type 0} (P : A → Type 0) (xs ys : List A) → All P (xs ++ ys) → All P ys
-all-right P [] ys p = p
-all-right P (x ∷ xs) ys p = all-right P xs ys (p .1)
-
-pub all-left : {A : Type 0} (P : A → Type 0) (xs ys : List A) → All P (xs ++ ys) → All P xs
-all-left P [] ys p = tt
-all-left P (x ∷ xs) ys p = (p .0, all-left P xs ys (p .1))
-
-pub all-map : {A : Type 0} (P Q : A → Type 0) → ((x : A) → P x → Q x) → (xs : List A) → All P xs → All Q xs
-all-map P Q f [] p = tt
-all-map P Q f (x ∷ xs) p = (f x (p .0), all-map P Q f xs (p .1))
-
-pub map-append : (xs ys : List TimedRecord) → map recordOf (xs ++ ys) ≡ map recordOf xs ++ map recordOf ys
+pub map-append : (xs ys : List TimedRecord) → map storedFor (xs ++ ys) ≡ map storedFor xs ++ map storedFor ys
 map-append [] ys = refl
-map-append (x ∷ xs) ys = ap (λ (l : List Record). recordOf x ∷ l) (map-append xs ys)
+map-append (x ∷ xs) ys = ap (λ (l : List Record). storedFor x ∷ l) (map-append xs ys)
 
-pub length-records-of : (xs : List TimedRecord) → length (map recordOf xs) ≡ length xs
+pub length-records-of : (xs : List TimedRecord) → length (map storedFor xs) ≡ length xs
 length-records-of [] = refl
 length-records-of (x ∷ xs) = ap suc (length-records-of xs)
 
 pub total-of-append : (xs ys : List TimedRecord) → totalOf (xs ++ ys) ≡ totalOf xs + totalOf ys
-total-of-append xs ys = ap total (map-append xs ys) ∙ total-append (map recordOf xs) (map recordOf ys)
+total-of-append xs ys = ap total (map-append xs ys) ∙ total-append (map storedFor xs) (map storedFor ys)
 
--- ---- timed records
-
-ranged-timed : (ts : List TimedRecord) → All StorableTimed ts → Ranged (map recordOf ts)
+ranged-timed : (ts : List TimedRecord) → All StorableTimed ts → Ranged (map storedFor ts)
 ranged-timed [] v = no-records
 ranged-timed (t ∷ ts) v = one-more (timed-ranged t (v .0)) (ranged-timed ts (v .1))
 
-rest-unfinished : (sum : ℕ) (ts : List TimedRecord) → All StorableTimed ts → sum + totalOf ts ≤ limit → restKind sum (map recordOf ts) ≡ unfinished
+rest-unfinished : (sum : ℕ) (ts : List TimedRecord) → All StorableTimed ts → sum + totalOf ts ≤ limit → restKind sum (map storedFor ts) ≡ unfinished
 unfolding restKind total
 rest-unfinished sum [] v h = refl
 rest-unfinished sum (t ∷ ts) v h =
-    let d : time t ≡ recordOf t .delay = time-is t (v .0) in
-    rest-cons sum (recordOf t) (map recordOf ts) (may-follow sum t (v .0) (omega arith)) ∙ rest-unfinished (sum + recordOf t .delay) ts (v .1) (omega arith)
+    let d : time t ≡ storedFor t .delay = time-is t (v .0) in
+    rest-cons sum (storedFor t) (map storedFor ts) (may-follow sum t (v .0) (omega arith)) ∙ rest-unfinished (sum + storedFor t .delay) ts (v .1) (omega arith)
 
 -- a file of no records carries no exit
 pub carries-none : carries (fileKind []) ≡ false
-unfolding carries fileKind kindOf fileBytes recordsKind
-carries-none = ap (λ (r : Records). carries (kindOf r)) (records-of-file [] no-records)
+unfolding carries fileKind kindOfRecords fileBytes recordsKind
+carries-none = ap (λ (r : Records). carries (kindOfRecords r)) (records-of-file [] no-records)
 
 -- ---- the first n records
 
 module _ (R : Recording) where
   -- the accept and some timed records
   abbrev pub begun : List TimedRecord → List Record
-  begun xs = acceptRecord (R .accept) ∷ map recordOf xs
+  begun xs = acceptRecord (R .accept) ∷ map storedFor xs
 
   pub first : (xs ys : List TimedRecord) → xs ++ ys ≡ R .timed → take (suc (length xs)) (records R) ≡ begun xs
   unfolding records
@@ -78,19 +70,19 @@ module _ (R : Recording) where
       rw (
         ← e,
         map-append xs ys,
-        append-assoc (map recordOf xs) (map recordOf ys) (exitRecord (R .exit) ∷ []),
+        append-assoc (map storedFor xs) (map storedFor ys) (exitRecord (R .exit) ∷ []),
         ← length-records-of xs,
-        take-append-seam (map recordOf xs) (map recordOf ys ++ (exitRecord (R .exit) ∷ [])),
+        take-append-seam (map storedFor xs) (map storedFor ys ++ (exitRecord (R .exit) ∷ [])),
       )
 
   pub size : length (records R) ≡ suc (suc (length (R .timed)))
   unfolding records
-  size = omega (arith, length-append (map recordOf (R .timed)) (exitRecord (R .exit) ∷ []), length-records-of (R .timed))
+  size = omega (arith, length-append (map storedFor (R .timed)) (exitRecord (R .exit) ∷ []), length-records-of (R .timed))
 
   -- the records by a split of the timed ones
-  pub split-records : (xs ys : List TimedRecord) → xs ++ ys ≡ R .timed → records R ≡ begun xs ++ (map recordOf ys ++ (exitRecord (R .exit) ∷ []))
+  pub split-records : (xs ys : List TimedRecord) → xs ++ ys ≡ R .timed → records R ≡ begun xs ++ (map storedFor ys ++ (exitRecord (R .exit) ∷ []))
   unfolding records
-  split-records xs ys e = rw (← e, map-append xs ys) (append-assoc (begun xs) (map recordOf ys) (exitRecord (R .exit) ∷ []))
+  split-records xs ys e = rw (← e, map-append xs ys) (append-assoc (begun xs) (map storedFor ys) (exitRecord (R .exit) ∷ []))
 
   -- n is nothing, or a split, or all
   pub data Count (n : ℕ) : Type 0 where
@@ -131,7 +123,7 @@ module _ (R : Recording) where
     pub begun-unfinished : (xs ys : List TimedRecord) → xs ++ ys ≡ R .timed → recordsKind (begun xs) ≡ unfinished
     begun-unfinished xs ys e =
         let sums : totalOf xs + totalOf ys ≡ totalOf (R .timed) = sym (total-of-append xs ys) ∙ ap totalOf e in
-        accept-cons (acceptRecord (R .accept)) (map recordOf xs) refl refl
+        accept-cons (acceptRecord (R .accept)) (map storedFor xs) refl refl
         ∙ rest-unfinished 0 xs (all-left StorableTimed xs ys (rw e (storable .timed-storable))) (omega (arith, storable .valid .within-limit))
 
     pub whole-finished : recordsKind (records R) ≡ finished
@@ -152,13 +144,13 @@ module _ (R : Recording) where
 
     -- does a file of n records carry an exit
     pub carries-is : (n : ℕ) → n ≤ length (records R) → carries (fileKind (fileBytes (take n (records R)))) ≡ eqb n (length (records R))
-    unfolding carries fileKind kindOf fileBytes recordsKind
+    unfolding carries fileKind kindOfRecords fileBytes recordsKind
     carries-is n h = go (count n h)
       where
         go : Count n → carries (fileKind (fileBytes (take n (records R)))) ≡ eqb n (length (records R))
-        go (nothing e) = rw e (ap (λ (r : Records). carries (kindOf r)) (records-of-file [] no-records) ∙ sym (ne-eqb 0 (length (records R)) (λ z. omega (arith, size))))
+        go (nothing e) = rw e (ap (λ (r : Records). carries (kindOfRecords r)) (records-of-file [] no-records) ∙ sym (ne-eqb 0 (length (records R)) (λ z. omega (arith, size))))
         go (some-of xs ys e k) =
             let l : length xs + length ys ≡ length (R .timed) = sym (length-append xs ys) ∙ ap length e in
-            rw k (ap (λ (r : Records). carries (kindOf r)) (read-begun xs ys e) ∙ ap carries (begun-unfinished xs ys e))
+            rw k (ap (λ (r : Records). carries (kindOfRecords r)) (read-begun xs ys e) ∙ ap carries (begun-unfinished xs ys e))
             ∙ sym (ne-eqb n (length (records R)) (λ z. omega (arith, size)))
-        go (whole e) = ap (λ (r : Records). carries (kindOf r)) (read-whole n e) ∙ ap carries whole-finished ∙ sym (eq-eqb n (length (records R)) e)
+        go (whole e) = ap (λ (r : Records). carries (kindOfRecords r)) (read-whole n e) ∙ ap carries whole-finished ∙ sym (eq-eqb n (length (records R)) e)

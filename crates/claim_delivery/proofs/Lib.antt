@@ -1,6 +1,5 @@
 pub mod Totals
 pub mod Cutting
-pub mod Values
 pub mod Sizes
 pub mod Files
 pub mod Steps

@@ -11,21 +11,22 @@ use lib.Dec.{leb}
 use lib.ListN.{length, take, drop-of-length-le}
 use lib.Seq.{take-length}
 use borrow.Author.Tests.{ne-eqb}
-use Rattle.base_laws.specs.Base.{pick}
+use Rattle.base_laws.specs.Base.{pick, All}
+use Rattle.base_laws.proofs.Lists.{all-map}
 use Rattle.wire_message.specs.Message.{Bytes}
 use Rattle.file_format.specs.File.{fileBytes, limit}
 use Rattle.session.specs.Step as session
-use Rattle.claim_delivery.specs.Recording.{TimedRecord, Recording, records, time, greater, All}
+use Rattle.claim_values.specs.Values.{TimedRecord}
+use Rattle.claim_delivery.specs.Recording.{Recording, records, time, greater}
 use Rattle.claim_delivery.specs.Sender.{Place, Sent, accept, restart, timed, exit, rest, messages, Says, Lines}
 use Rattle.claim_delivery.specs.Host.{frames, Answer, toTick, toMessage, Desk}
 use Rattle.claim_delivery.specs.World.{Connection, World, fresh, Event, opening, bytes, tick, arrival, break, withConnection, areaOf, opened, desk, settled, cameIn, arrived, inside, outside, happens, run, Fresh, Proper, AllProper}
 use Rattle.claim_delivery.specs.Demand.{Listed, Delivery, end}
 use Rattle.claim_delivery.specs.Progress.{Sendable, underWay, TellsEnd, Done, GoesOn, Progress}
 use Rattle.claim_delivery.proofs.Restarting.{restartable}
-use Rattle.claim_delivery.proofs.Values.{Storable}
 use Rattle.claim_delivery.proofs.Sizes.{storable-sent}
 use Rattle.claim_delivery.proofs.Cutting.{Short, drain-short, none-left}
-use Rattle.claim_delivery.proofs.Files.{all-map}
+use Rattle.claim_delivery.proofs.Files.{Storable}
 use Rattle.claim_delivery.proofs.Desk.{AnswerOk, Lead, Stage, beginning, resuming, logging, over, Inv}
 use Rattle.claim_delivery.proofs.Runs.{Whole, Link, LinkOk, WorldOk, run-ok, LatestOk}
 use Rattle.claim_delivery.proofs.Reached.{reached}
@@ -304,7 +305,7 @@ module _ (R : Recording) where
   done : (blank : ℕ → Bytes) (w : World) → WorldOk R blank w → Whole R (w .book) → Done R w
   done blank w ok x = record {
     area = x .place;
-    whole = ok .areas (x .place) .lies .shows ∙ ap (λ (k : ℕ). fileBytes (take k (records R))) (x .is-whole) ∙ ap fileBytes (take-length (records R));
+    whole = ok .areas (x .place) .holds .shows ∙ ap (λ (k : ℕ). fileBytes (take k (records R))) (x .is-whole) ∙ ap fileBytes (take-length (records R));
   }
 
   tells : (n : ℕ) (a : Answer) → AnswerOk R n a → TellsEnd R a

@@ -7,9 +7,9 @@ use Rattle.wire_message.specs.Message.{Bytes}
 use Rattle.claim_delivery.specs.Recording.{Recording, Valid}
 use Rattle.claim_delivery.specs.World.{World, fresh, Event, opening, bytes, tick, arrival, break, outside, happens, run, Proper, AllProper}
 use Rattle.claim_delivery.specs.Demand.{Delivery, end}
-use Rattle.claim_delivery.proofs.Values.{Storable}
 use Rattle.claim_delivery.proofs.Sizes.{storable-lined}
 use Rattle.claim_delivery.proofs.Runs.{WorldOk, fresh-ok, run-ok}
+use Rattle.claim_delivery.proofs.Files.{Storable}
 
 module _ (blank : ℕ → Bytes) (R : Recording) where
   pub data Came (w : World) : Type 0 where

@@ -14,7 +14,7 @@ use Rattle.wire_message.specs.Message.{Bytes, Restart}
 use Rattle.wire_range.specs.Limits.{upTo, sized, dateFits, momentFits}
 use Rattle.wire_range.specs.Range.{restartFits}
 use Rattle.wire.specs.Read.{value, clientMessage}
-use Rattle.write_forms.specs.Pieces.{Piece, some, bytes, text, varint, varintFrom, head, encode, encodeAll}
+use Rattle.write_forms.specs.Pieces.{Piece, some, bytes, text, varint, shortestFrom, head, encode, encodeAll}
 use Rattle.write_forms.specs.Draft as w
 use Rattle.write_forms.specs.Draft.{Stamp, stampValue, time, wrapped, writtenClient, clientNumber, clientPieces, meantClient}
 use Rattle.write_forms.proofs.RoundTrip.{client-back}
@@ -25,12 +25,12 @@ use Rattle.claim_delivery.specs.Sender.{SaysRestart}
 
 -- ---- its length
 
-varint-short : (k v : ℕ) → length (varintFrom k v) ≤ suc k
-unfolding varintFrom
+varint-short : (k v : ℕ) → length (shortestFrom k v) ≤ suc k
+unfolding shortestFrom
 varint-short zero v = omega arith
 varint-short (suc k) v = go (ltb v 128) (varint-short k (v / 128))
   where
-    go : (t : Bool) → length (varintFrom k (v / 128)) ≤ suc k → length (pick t (v ∷ []) ((v % 128 + 128) ∷ varintFrom k (v / 128))) ≤ suc (suc k)
+    go : (t : Bool) → length (shortestFrom k (v / 128)) ≤ suc k → length (pick t (v ∷ []) ((v % 128 + 128) ∷ shortestFrom k (v / 128))) ≤ suc (suc k)
     go true h = omega arith
     go false h = omega arith
 

@@ -9,7 +9,8 @@ use mathlib.Core.List.{List, [], _∷_, _++_, append-assoc, append-nil, map}
 use lib.Dec.{eqb}
 use lib.ListN.{length, take, drop, length-append, take-append-drop}
 use borrow.Author.Tests.{eq-eqb, eqb-true, eqb-false}
-use Rattle.base_laws.specs.Base.{pick}
+use Rattle.base_laws.specs.Base.{pick, All}
+use Rattle.base_laws.proofs.Lists.{all-append, all-right}
 use Rattle.wire_message.specs.Message.{Bytes, Client}
 use Rattle.wire.specs.Read.{Reading, clientMessage}
 use Rattle.file_format.specs.Record.{recordBytes}
@@ -17,22 +18,22 @@ use Rattle.file_format.specs.File.{fileBytes, total}
 use Rattle.file_format.proofs.Records.{length-record}
 use Rattle.session.specs.Step as session
 use Rattle.session.specs.Step.{acceptRecord, exitRecord, loggingPoint, pointIn}
-use Rattle.session.specs.Answer.{mayOpen}
+use Rattle.session.proofs.Turns.{mayOpen}
 use Rattle.session_turn.specs.declared.State.{State}
 use Rattle.session_turn.specs.declared.State.the-variants.{New, Greeted, Logging, EventsOnly, Closed}
 use Rattle.session.specs.declared.Mark.{Mark}
 use Rattle.session.specs.declared.Mark.the-variants as mark
 use Rattle.session.specs.declared.Point.{Point}
 use Rattle.session.specs.declared.Point.the-variants as point
-use Rattle.claim_delivery.specs.Recording.{TimedRecord, Recording, recordOf, records, All}
+use Rattle.claim_values.specs.Values.{TimedRecord, storedFor}
+use Rattle.claim_delivery.specs.Recording.{Recording, records}
 use Rattle.claim_delivery.specs.Sender.{Place, Sent, messages, withHello, Lines}
-use Rattle.claim_delivery.specs.Host.{frames, Drained, cutAll, booked, Answer, toTick, toMessage, Desk, hand, handAll}
-use Rattle.claim_delivery.specs.World.{Connection, World, fresh, Event, opening, bytes, tick, arrival, break, withConnection, opened, put, desk, settled, cameIn, tickAnswers, stoppedAfter, arrived, inside, outside, happens, run, Fresh, Proper, AllProper}
+use Rattle.claim_delivery.specs.Host.{frames, Drained, cutAll, booked, Answer, toTick, toMessage, Desk, withOut, hand, handAll}
+use Rattle.claim_delivery.specs.World.{Connection, sending, World, fresh, Event, opening, bytes, tick, arrival, break, withConnection, opened, put, desk, settled, cameIn, tickAnswers, stoppedAfter, arrived, inside, outside, happens, run, Fresh, Proper, AllProper}
 use Rattle.claim_delivery.proofs.Totals.{greater-is}
 use Rattle.claim_delivery.proofs.Cutting.{Fits, Left, drained}
-use Rattle.claim_delivery.proofs.Values.{Storable}
-use Rattle.claim_delivery.proofs.Files.{all-append, all-right}
-use Rattle.claim_delivery.proofs.Areas.{Lies}
+use Rattle.claim_delivery.proofs.Files.{Storable}
+use Rattle.claim_delivery.proofs.Areas.{Holds}
 use Rattle.claim_delivery.proofs.Desk.{Good, PointOk, AnswerOk, Quiet, MarkOk, Lead, Stage, beginning, resuming, logging, over, RestartOk, Inv, reads-some, all-handed}
 
 -- the sender's latest point, seen from its area
@@ -45,7 +46,7 @@ LatestOk R book none = Unit {0}
 LatestOk R book (some p) = Good R (book (p .area)) (p .at)
 
 pub record AreaOk (R : Recording) (area : Bytes) (used n : ℕ) : Type 0 where
-  pub lies : Lies area used (take n (records R))
+  pub holds : Holds area used (take n (records R))
   pub within : n ≤ length (records R)
 
 -- some area holds the whole recording
@@ -84,7 +85,7 @@ module _ (R : Recording) (blank : ℕ → Bytes) where
   unfolding fresh fileBytes
   fresh-ok = record {
     sizes = λ a. refl;
-    areas = λ a. record { lies = record { shows = refl; used-is = refl }; within = omega arith };
+    areas = λ a. record { holds = record { shows = refl; used-is = refl }; within = omega arith };
     restarts-ok = tt;
     latest-ok = tt;
     stopped-ok = λ e. absurd (never e);
@@ -94,20 +95,11 @@ module _ (R : Recording) (blank : ℕ → Bytes) where
   -- ---- a tick puts a good point under way, or none
 
   Ticked : Desk → Desk
-  Ticked d = record {
-    session = d .session;
-    area = d .area;
-    used = d .used;
-    n = d .n;
-    restarts = d .restarts;
-    out = d .out ++ tickAnswers (session.tick (d .session));
-  }
+  Ticked d = withOut d (d .out ++ tickAnswers (session.tick (d .session)))
 
   no-tick : (d : Desk) → session.tick (d .session) ≡ point.Absent → Ticked d ≡ d
   unfolding Ticked tickAnswers
-  no-tick d h =
-      ap (λ (z : Point). record { session = d .session; area = d .area; used = d .used; n = d .n; restarts = d .restarts; out = d .out ++ tickAnswers z }) h
-      ∙ ap (λ (z : List Answer). record { session = d .session; area = d .area; used = d .used; n = d .n; restarts = d .restarts; out = z }) (append-nil (d .out))
+  no-tick d h = ap (λ (z : Point). withOut d (d .out ++ tickAnswers z)) h ∙ ap (withOut d) (append-nil (d .out))
 
   -- where no record can be stored a tick gives none
   opening-quiet : (st : State) (p : Point) → mayOpen st ≡ true → pointIn st p ≡ point.Absent
@@ -144,7 +136,7 @@ module _ (R : Recording) (blank : ℕ → Bytes) where
       go (resuming T l q o) = rw (no-tick d (lead-quiet (d .session .state) point ms _ l)) i
       go (over h z) = rw (no-tick d (ap (λ (x : State). pointIn x point) h)) i
       go (logging l) = record {
-        lies = i .lies;
+        holds = i .holds;
         sized = i .sized;
         within = i .within;
         restarts-ok = i .restarts-ok;
@@ -203,7 +195,7 @@ module _ (R : Recording) (blank : ℕ → Bytes) where
       size-of a false h = ok .sizes a
 
       area-of : (a : ℕ) (b : Bool) → AreaOk R (pick b (d .area) (w .area a)) (pick b (d .used) (w .used a)) (pick b (d .n) (w .book a))
-      area-of a true = record { lies = i .lies; within = i .within }
+      area-of a true = record { holds = i .holds; within = i .within }
       area-of a false = ok .areas a
 
       latest-at : (p : Option ℕ) → PointOk R (d .n) p → LatestOk R (put (c .area) (d .n) (w .book)) (placed (c .area) p)
@@ -230,9 +222,9 @@ module _ (R : Recording) (blank : ℕ → Bytes) where
   -- ---- an arrival: whatever comes first, the invariant holds with the sender's new latest point
 
   came : (c : ℕ) (p q : Option ℕ) (ms : List Sent) (d : Desk) (a : Answer) (out : List Answer) → d .out ≡ a ∷ out → Inv R c p ms d → PointOk R (d .n) q → (Quiet a → q ≡ p)
-      → Inv R c q ms (record { session = d .session; area = d .area; used = d .used; n = d .n; restarts = d .restarts; out = out })
+      → Inv R c q ms (withOut d out)
   came c p q ms d a out e i g same = record {
-    lies = i .lies;
+    holds = i .holds;
     sized = i .sized;
     within = i .within;
     restarts-ok = i .restarts-ok;
@@ -241,7 +233,7 @@ module _ (R : Recording) (blank : ℕ → Bytes) where
     stage = go (i .stage);
   }
     where
-      go : Stage R p ms d → Stage R q ms (record { session = d .session; area = d .area; used = d .used; n = d .n; restarts = d .restarts; out = out })
+      go : Stage R p ms d → Stage R q ms (withOut d out)
       go (beginning l z) = beginning l z
       go (resuming T l h o) = let z = rw e at o in resuming T l (same (z .0) ∙ h) (z .1)
       go (over h z) = over h z
@@ -253,7 +245,7 @@ module _ (R : Recording) (blank : ℕ → Bytes) where
 
   moved : (w : World) (c : Connection) (a : Answer) (out : List Answer) (q : Option ℕ) (latest : Option Place) (stopped : Bool) → WorldOk w → (l : Link w c)
       → c .out ≡ a ∷ out → latest ≡ placed (c .area) q → PointOk R (w .book (c .area)) q → (Quiet a → q ≡ l .sees) → (stopped ≡ true → Whole R (w .book))
-      → WorldOk (withConnection w latest stopped (w .part) (some (record { area = c .area; session = c .session; line = c .line; out = out })))
+      → WorldOk (withConnection w latest stopped (w .part) (some (sending c out)))
   unfolding desk
   moved w c a out q latest stopped ok l e p g same s = record {
     sizes = ok .sizes;
@@ -308,7 +300,7 @@ module _ (R : Recording) (blank : ℕ → Bytes) where
   unfolding fileBytes records
   fresh-zero area used zero h e = refl
   fresh-zero area used (suc n) h e =
-      absurd (omega (arith, h .lies .used-is, length-append (recordBytes (acceptRecord (R .accept))) (fileBytes (take n (map recordOf (R .timed) ++ (exitRecord (R .exit) ∷ [])))), length-record (acceptRecord (R .accept))))
+      absurd (omega (arith, h .holds .used-is, length-append (recordBytes (acceptRecord (R .accept))) (fileBytes (take n (map storedFor (R .timed) ++ (exitRecord (R .exit) ∷ [])))), length-record (acceptRecord (R .accept))))
 
   opened-ok : (w : World) (l : Option Place) (h : Bool) (bs : List Bytes) (a : ℕ) → WorldOk w → w .part ≡ [] → w .latest ≡ l
       → Lines bs (withHello h (messages R l)) → Fresh w l a → WorldOk (opened w bs a)
@@ -328,7 +320,7 @@ module _ (R : Recording) (blank : ℕ → Bytes) where
       fit = lines-fit bs (withHello h (messages R (some p))) lined;
       read-as = lined;
       inv = record {
-        lies = ok .areas (p .area) .lies;
+        holds = ok .areas (p .area) .holds;
         sized = ok .sizes (p .area);
         within = ok .areas (p .area) .within;
         restarts-ok = ok .restarts-ok;
@@ -353,7 +345,7 @@ module _ (R : Recording) (blank : ℕ → Bytes) where
       fit = lines-fit bs (withHello h (messages R none)) lined;
       read-as = lined;
       inv = record {
-        lies = ok .areas a .lies;
+        holds = ok .areas a .holds;
         sized = ok .sizes a;
         within = ok .areas a .within;
         restarts-ok = ok .restarts-ok;

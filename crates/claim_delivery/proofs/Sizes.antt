@@ -1,22 +1,24 @@
 -- A recording whose messages were lined up once can be stored: what a message that fits a frame holds is short (`wire`, Sizes).
-use Prim.Native.Nat.{ℕ, zero, suc, _+_, _-_, _≤_, _<_}
 use native.Mathlib.Omega.{arith}
-use mathlib.Core.Path.{_≡_, refl, ap, sym, _∙_, subst}
+use mathlib.Core.Path.{_≡_, ap}
 use mathlib.Core.Bool.{Bool, true, false}
-use mathlib.Core.List.{List, [], _∷_, map}
+use mathlib.Core.List.{List, [], _∷_}
 use mathlib.Core.Option as option
 use lib.ListN.{length, length-append}
-use Rattle.wire_message.specs.Message.{Bytes, Exit, Client, acceptMsg, rejectMsg, exitMsg, restartMsg, alertMsg, ioBuf, winsizeEvent, suspendEvent, helloMsg, clientMember}
+use Rattle.base_laws.specs.Base.{All}
+use Rattle.wire_message.specs.Message.{Bytes, Exit, exitMsg, ioBuf, suspendEvent}
 use Rattle.wire.specs.Read.{received}
 use Rattle.wire.proofs.Sizes.{reads-short, received-short}
 use Rattle.file_format.specs.Record.{exitBytes}
 use Rattle.session.specs.Step.{natural, acceptRecord, exitRecord}
-use Rattle.claim_delivery.specs.Recording.{TimedRecord, io, window, suspend, Recording, recordOf, inRange, All, Valid}
+use Rattle.claim_values.specs.Values.{TimedRecord, io, window, suspend, timedMember, storedFor, timedInRange}
+use Rattle.claim_values.proofs.Stored.{Small, StorableTimed}
+use Rattle.claim_delivery.specs.Recording.{Recording, Valid}
 use Rattle.claim_delivery.specs.Sender as sent
 use Rattle.claim_delivery.specs.Sender.{rest, messages, withHello, Says, Lines}
 use Rattle.claim_delivery.specs.Progress.{Sendable}
 use Rattle.file_format.proofs.Records.{length-window}
-use Rattle.claim_delivery.proofs.Values.{Small, StorableTimed, Storable}
+use Rattle.claim_delivery.proofs.Files.{Storable}
 
 -- ---- what the sender says has records that can be stored
 
@@ -25,8 +27,8 @@ accept-small t d y =
     let l : length (received t) ≡ length d = ap length (y .1) in
     omega (arith, received-short t (y .0 .fits))
 
-timed-small : (t : Bytes) (r : TimedRecord) → Says t (sent.timed r) → Small (recordOf r)
-unfolding recordOf sent.member
+timed-small : (t : Bytes) (r : TimedRecord) → Says t (sent.timed r) → Small (storedFor r)
+unfolding storedFor timedMember
 timed-small t (io k i) y = reads-short t (ioBuf k i) (y .fits) (y .read)
 timed-small t (window w) y = omega (arith, length-window (natural (w .rows)) (natural (w .cols)))
 timed-small t (suspend x) y = reads-short t (suspendEvent x) (y .fits) (y .read)
@@ -40,7 +42,7 @@ module _ (R : Recording) (v : Valid R) where
   abbrev SaysTimed : TimedRecord → Type 0
   SaysTimed t = (b : Bytes) × Says b (sent.timed t)
 
-  all-storable : (ts : List TimedRecord) → All (λ (t : TimedRecord). inRange t ≡ true) ts → All SaysTimed ts → All StorableTimed ts
+  all-storable : (ts : List TimedRecord) → All (λ (t : TimedRecord). timedInRange t ≡ true) ts → All SaysTimed ts → All StorableTimed ts
   all-storable [] i a = tt
   all-storable (t ∷ ts) i a = (record { in-range = i .0; small = timed-small (a .0 .0) t (a .0 .1) }, all-storable ts (i .1) (a .1))
 

@@ -16,14 +16,14 @@ use Rattle.file_format.specs.Record.{Record, recordBytes}
 use Rattle.file_format.specs.File.{all, recordsOf, fileBytes, limit, lowTotal, unfinished, finished, recordsKind, meets, keep}
 use Rattle.session_turn.specs.Turn.{opening, recording, greeting, ending, alerting, turn}
 use Rattle.session.specs.Step.{moment, acceptRecord, exitRecord, fromAccept, fromRestart, grown, ended, carrying, withinArea, lengthsFit, atMark, growthRefusal, refuse, taken, roomFor, stored, timed, acceptStored, exitStored, onExit, resumed, byKind, ofRecords, onRestart, act, inTurn, onReading, step}
-use Rattle.session.specs.Answer.{mayOpen}
 use Rattle.session_turn.specs.declared.State.{State}
 use Rattle.session_turn.specs.declared.State.the-variants.{New, Greeted, Logging, EventsOnly, Closed}
 use Rattle.session.specs.declared.Session.{Session}
 use Rattle.session.specs.declared.Point.the-variants as point
-use Rattle.session.proofs.Turns.{opens, accept-placed}
-use Rattle.claim_delivery.specs.Recording.{TimedRecord, io, window, suspend, Recording, recordOf, inRange, acceptOf, Valid}
-use Rattle.claim_delivery.specs.Sender.{Reads, member}
+use Rattle.session.proofs.Turns.{mayOpen, opens, accept-placed}
+use Rattle.claim_values.specs.Values.{TimedRecord, io, window, suspend, storedFor, timedInRange, timedMember}
+use Rattle.claim_delivery.specs.Recording.{Recording, acceptOf, Valid}
+use Rattle.claim_delivery.specs.Sender.{Reads}
 use Rattle.wire.specs.Read.{received}
 
 module _ (se : Session) (area : Bytes) (used : ℕ) (s : Bytes) where
@@ -71,18 +71,18 @@ module _ (se : Session) (area : Bytes) (used : ℕ) (s : Bytes) where
   -- ---- a timed record in logging
 
   -- the session after it
-  pub acts-timed : (t : TimedRecord) (d : Bytes) → inRange t ≡ true → inTurn se area used (turn Logging (member t)) d (member t) ≡ timed se area used true (recordOf t)
-  unfolding inTurn turn recording act member recordOf inRange
-  acts-timed (io k i) d e = ap (λ (b : Bool). timed se area used b (recordOf (io k i))) (both-true (both (leb 6 k) (leb k 10)) (ioFits i) e .1)
-  acts-timed (window w) d e = ap (λ (b : Bool). timed se area used b (recordOf (window w))) e
-  acts-timed (suspend x) d e = ap (λ (b : Bool). timed se area used b (recordOf (suspend x))) e
+  pub acts-timed : (t : TimedRecord) (d : Bytes) → timedInRange t ≡ true → inTurn se area used (turn Logging (timedMember t)) d (timedMember t) ≡ timed se area used true (storedFor t)
+  unfolding inTurn turn recording act timedMember storedFor timedInRange
+  acts-timed (io k i) d e = ap (λ (b : Bool). timed se area used b (storedFor (io k i))) (both-true (both (leb 6 k) (leb k 10)) (ioFits i) e .1)
+  acts-timed (window w) d e = ap (λ (b : Bool). timed se area used b (storedFor (window w))) e
+  acts-timed (suspend x) d e = ap (λ (b : Bool). timed se area used b (storedFor (suspend x))) e
 
-  pub step-timed : (t : TimedRecord) → Reads s (member t) → inRange t ≡ true → se .state ≡ Logging → lengthsFit (length area) used (se .used) ≡ true
-      → se .total + recordOf t .delay ≤ limit → both (eqb (recordOf t .delay) 0) (atMark (se .mark) (se .total)) ≡ false → roomFor se area used (recordOf t) ≡ true
-      → step se area used s ≡ carrying point.Absent (grown se (used + length (recordBytes (recordOf t))) (recordOf t .delay)) (stored se area used (recordOf t))
+  pub step-timed : (t : TimedRecord) → Reads s (timedMember t) → timedInRange t ≡ true → se .state ≡ Logging → lengthsFit (length area) used (se .used) ≡ true
+      → se .total + storedFor t .delay ≤ limit → both (eqb (storedFor t .delay) 0) (atMark (se .mark) (se .total)) ≡ false → roomFor se area used (storedFor t) ≡ true
+      → step se area used s ≡ carrying point.Absent (grown se (used + length (recordBytes (storedFor t))) (storedFor t .delay)) (stored se area used (storedFor t))
   unfolding timed growthRefusal
   step-timed t r v e l h z p =
-      in-state Logging (member t) r e ∙ acts-timed t (received s) v ∙ rw (l, le-leb (se .total + recordOf t .delay) limit h, z, p)
+      in-state Logging (timedMember t) r e ∙ acts-timed t (received s) v ∙ rw (l, le-leb (se .total + storedFor t .delay) limit h, z, p)
 
   -- ---- the exit in logging
 

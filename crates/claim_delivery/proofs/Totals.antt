@@ -10,7 +10,8 @@ use lib.ListN.{length}
 use borrow.Author.Tests.{leb-false, le-leb, lt-leb}
 use Rattle.base_laws.specs.Base.{pick}
 use Rattle.file_format.specs.File.{total, keep}
-use Rattle.claim_delivery.specs.Recording.{TimedRecord, recordOf, time, totalOf, atMost, greater}
+use Rattle.claim_values.specs.Values.{TimedRecord, storedFor}
+use Rattle.claim_delivery.specs.Recording.{time, totalOf, atMost, greater}
 
 -- the records up to the last whose total is at most T, and those behind them
 unfoldable pub kept : ℕ → ℕ → List TimedRecord → List TimedRecord
@@ -63,14 +64,14 @@ greater-is s T (r ∷ rs) = go (leb (s + time r) T) refl (greater-is (s + time r
 
 -- ---- the session's keeping
 
-pub keep-is : (s T : ℕ) (rs : List TimedRecord) → keep T s (map recordOf rs) ≡ map recordOf (kept s T rs)
+pub keep-is : (s T : ℕ) (rs : List TimedRecord) → keep T s (map storedFor rs) ≡ map storedFor (kept s T rs)
 unfolding keep kept
 keep-is s T [] = refl
 keep-is s T (r ∷ rs) = go (leb (s + time r) T) (keep-is (s + time r) T rs)
   where
-    go : (b : Bool) → keep T (s + time r) (map recordOf rs) ≡ map recordOf (kept (s + time r) T rs)
-        → pick b (recordOf r ∷ keep T (s + time r) (map recordOf rs)) [] ≡ map recordOf (pick b (r ∷ kept (s + time r) T rs) [])
-    go true h = ap (λ l. recordOf r ∷ l) h
+    go : (b : Bool) → keep T (s + time r) (map storedFor rs) ≡ map storedFor (kept (s + time r) T rs)
+        → pick b (storedFor r ∷ keep T (s + time r) (map storedFor rs)) [] ≡ map storedFor (pick b (r ∷ kept (s + time r) T rs) [])
+    go true h = ap (λ l. storedFor r ∷ l) h
     go false h = refl
 
 none-kept : (l : List TimedRecord) → length l ≤ 0 → [] ≡ l

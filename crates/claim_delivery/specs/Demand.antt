@@ -4,10 +4,11 @@ use mathlib.Core.Path.{_≡_}
 use mathlib.Core.Bool.{not}
 use mathlib.Core.List.{List}
 use lib.ListN.{length, take}
+use Rattle.base_laws.specs.Base.{All}
 use Rattle.wire_message.specs.Message.{Bytes}
 use Rattle.file_format.specs.File as f
 use Rattle.file_format.specs.File.{fileBytes, fileKind}
-use Rattle.claim_delivery.specs.Recording.{Recording, Valid, All, records}
+use Rattle.claim_delivery.specs.Recording.{Recording, Valid, records}
 use Rattle.claim_delivery.specs.Host.{WholeRestart}
 use Rattle.claim_delivery.specs.World.{World, Event, AllProper, run, fresh, file}
 

@@ -111,18 +111,30 @@ pub record Desk : Type 0 where
   pub restarts : List WholeRestart
   pub out : List Answer
 
+-- the desk with other answers under way
+abbrev pub withOut : Desk → List Answer → Desk
+withOut d out = record { session = d .session; area = d .area; used = d .used; n = d .n; restarts = d .restarts; out = out }
+
+-- a restart that the session answered so
+abbrev pub restartNote : Desk → Outcome → WholeRestart
+restartNote d o = record { taken = eqb (o .refusal) 0; carried = carries (fileKind (take (d .used) (d .area))) }
+
+-- the desk after a message that the session answered so, with this n and these restarts more
+abbrev pub deskAfter : Desk → Outcome → ℕ → List WholeRestart → Desk
+deskAfter d o n more = record {
+  session = o .session;
+  area = o .area;
+  used = o .used;
+  n = n;
+  restarts = d .restarts ++ more;
+  out = d .out ++ (toMessage (o .refusal) (o .point) ∷ []);
+}
+
 -- "Each event goes on from what the last one left."
 unfoldable pub hand : Recording → Bytes → Desk → Desk
 hand R s d =
     let o : Outcome = step (d .session) (d .area) (d .used) s in
-    record {
-      session = o .session;
-      area = o .area;
-      used = o .used;
-      n = booked R (clientMessage s) (d .n);
-      restarts = d .restarts ++ noted (clientMessage s) (record { taken = eqb (o .refusal) 0; carried = carries (fileKind (take (d .used) (d .area))) });
-      out = d .out ++ (toMessage (o .refusal) (o .point) ∷ []);
-    }
+    deskAfter d o (booked R (clientMessage s) (d .n)) (noted (clientMessage s) (restartNote d o))
 
 unfoldable pub handAll : Recording → List Bytes → Desk → Desk
 handAll R [] d = d

@@ -5,10 +5,12 @@ use mathlib.Core.Path.{_≡_}
 use mathlib.Core.Bool.{true}
 use mathlib.Core.Option.{Option, none, some}
 use mathlib.Core.List.{List, [], _++_}
+use Rattle.base_laws.specs.Base.{All}
 use Rattle.wire_message.specs.Message.{Bytes}
 use Rattle.file_format.specs.File.{fileBytes}
 use Rattle.session.specs.declared.Point.the-variants as point
-use Rattle.claim_delivery.specs.Recording.{TimedRecord, Recording, records, totalOf, All}
+use Rattle.claim_values.specs.Values.{TimedRecord}
+use Rattle.claim_delivery.specs.Recording.{Recording, records, totalOf}
 use Rattle.claim_delivery.specs.Sender.{accept, timed, exit, Says}
 use Rattle.claim_delivery.specs.Host.{Answer, toTick, toMessage}
 use Rattle.claim_delivery.specs.World.{Connection, World, Event, file}

@@ -3,24 +3,19 @@
 -- for them.
 use Prim.Native.Nat.{ℕ, suc, _+_, _≤_}
 use mathlib.Core.Path.{_≡_}
-use mathlib.Core.Bool.{Bool, true}
+use mathlib.Core.Bool.{true}
 use mathlib.Core.List.{List, [], _∷_, _++_, map}
 use lib.Dec.{leb}
-use Rattle.base_laws.specs.Base.{pick, both}
+use Rattle.base_laws.specs.Base.{pick, All}
 use Rattle.wire_fields.specs.Items.{items}
 use Rattle.wire_message.specs.Message as m
-use Rattle.wire_message.specs.Message.{Bytes, Timed, WindowSize, Exit}
-use Rattle.wire_range.specs.Range.{acceptFits, exitFits, ioFits, windowFits, suspendFits}
+use Rattle.wire_message.specs.Message.{Bytes, Exit}
+use Rattle.wire_range.specs.Range.{acceptFits, exitFits}
 use Rattle.file_format.specs.Record.{Record}
 use Rattle.file_format.specs.File.{limit, timeOf, total}
 use Rattle.session_entries.specs.Required.{entriesRefusal}
-use Rattle.session.specs.Step.{acceptRecord, ioRecord, windowRecord, suspendRecord, exitRecord}
-
--- a timed record's values: an I/O buffer of the kind 6 to 10, a window size, a suspend
-pub data TimedRecord : Type 0 where
-  io : ℕ → Timed → TimedRecord
-  window : WindowSize → TimedRecord
-  suspend : Timed → TimedRecord
+use Rattle.session.specs.Step.{acceptRecord, exitRecord}
+use Rattle.claim_values.specs.Values.{TimedRecord, storedFor, timedInRange}
 
 -- the accept is its bytes as received, the content of accept_msg
 pub record Recording : Type 0 where
@@ -28,24 +23,19 @@ pub record Recording : Type 0 where
   pub timed : List TimedRecord
   pub exit : Exit
 
--- ---- its records: those that a session stores
-
-unfoldable pub recordOf : TimedRecord → Record
-recordOf (io k i) = ioRecord k i
-recordOf (window w) = windowRecord w
-recordOf (suspend s) = suspendRecord s
+-- ---- its records: those that a session stores (`recordFor` in crates/session/specs/Step.antt)
 
 -- the accept "Always first, once", the exit "Always last"
 unfoldable pub records : Recording → List Record
-records R = acceptRecord (R .accept) ∷ (map recordOf (R .timed) ++ (exitRecord (R .exit) ∷ []))
+records R = acceptRecord (R .accept) ∷ (map storedFor (R .timed) ++ (exitRecord (R .exit) ∷ []))
 
 -- ---- totals. Document 01: "The total is the sum of the delays of timed records".
 
 abbrev pub time : TimedRecord → ℕ
-time t = timeOf (recordOf t)
+time t = timeOf (storedFor t)
 
 abbrev pub totalOf : List TimedRecord → ℕ
-totalOf ts = total (map recordOf ts)
+totalOf ts = total (map storedFor ts)
 
 -- "its timed records with total at most T": how many, where those before have this sum
 unfoldable pub atMost : ℕ → ℕ → List TimedRecord → ℕ
@@ -60,16 +50,6 @@ greater sum T (t ∷ ts) = pick (leb (sum + time t) T) (greater (sum + time t) T
 -- ---- "all valid, its delays summing within the limit". Document 01: "A valid message fits a frame and passes reader, ranges and
 -- entries." That its messages fit a frame and pass the reader is said of each message (`Says` in Sender).
 
-abbrev pub All : {A : Type 0} → (A → Type 0) → List A → Type 0
-All P [] = Unit {0}
-All P (x ∷ xs) = P x × All P xs
-
--- document 01's ranges; an I/O buffer's kind is 6 to 10
-unfoldable pub inRange : TimedRecord → Bool
-inRange (io k i) = both (both (leb 6 k) (leb k 10)) (ioFits i)
-inRange (window w) = windowFits w
-inRange (suspend s) = suspendFits s
-
 -- the values of the accept's bytes
 abbrev pub acceptOf : Recording → m.Accept
 acceptOf R = m.accept (items (R .accept))
@@ -78,6 +58,6 @@ pub record Valid (R : Recording) : Type 0 where
   pub announces : acceptOf R .expectIobufs ≡ true
   pub accept-in-range : acceptFits (acceptOf R) ≡ true
   pub entries-there : entriesRefusal (acceptOf R .infoMsgs) ≡ 0
-  pub timed-in-range : All (λ (t : TimedRecord). inRange t ≡ true) (R .timed)
+  pub timed-in-range : All (λ (t : TimedRecord). timedInRange t ≡ true) (R .timed)
   pub exit-in-range : exitFits (R .exit) ≡ true
   pub within-limit : totalOf (R .timed) ≤ limit

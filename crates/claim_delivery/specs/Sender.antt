@@ -8,11 +8,12 @@ use mathlib.Core.List.{List, [], _∷_, _++_, map}
 use lib.ListN.{length}
 use Rattle.wire_fields.specs.Items.{items}
 use Rattle.wire_message.specs.Message as m
-use Rattle.wire_message.specs.Message.{Bytes, Exit, Restart, Client, acceptMsg, exitMsg, restartMsg, ioBuf, winsizeEvent, suspendEvent, helloMsg}
+use Rattle.wire_message.specs.Message.{Bytes, Exit, Restart, Client, acceptMsg, exitMsg, restartMsg, helloMsg}
 use Rattle.wire_range.specs.Range.{restartFits}
 use Rattle.wire.specs.Read.{value, clientMessage, received}
 use Rattle.session.specs.Step.{moment}
-use Rattle.claim_delivery.specs.Recording.{TimedRecord, io, window, suspend, Recording, greater}
+use Rattle.claim_values.specs.Values.{TimedRecord, timedMember}
+use Rattle.claim_delivery.specs.Recording.{Recording, greater}
 
 -- a commit point, in nanoseconds, with the area that it is about
 pub record Place : Type 0 where
@@ -48,11 +49,6 @@ pub record Reads (s : Bytes) (c : Client) : Type 0 where
   pub fits : length s ≤ 2097152
   pub read : clientMessage s ≡ value c
 
-unfoldable pub member : TimedRecord → Client
-member (io k i) = ioBuf k i
-member (window w) = winsizeEvent w
-member (suspend s) = suspendEvent s
-
 -- "a valid restart", at T
 pub record SaysRestart (s : Bytes) (T : ℕ) : Type 0 where
   pub values : Restart
@@ -65,7 +61,7 @@ abbrev pub Says : Bytes → Sent → Type 0
 Says s hello = (id : Bytes) × Reads s (helloMsg id)
 Says s (accept d) = Reads s (acceptMsg (m.accept (items d))) × (received s ≡ d)
 Says s (restart T) = SaysRestart s T
-Says s (timed t) = Reads s (member t)
+Says s (timed t) = Reads s (timedMember t)
 Says s (exit e) = Reads s (exitMsg e)
 
 abbrev pub Lines : List Bytes → List Sent → Type 0

@@ -10,8 +10,9 @@ use lib.IntN.{pos}
 use lib.ListN.{drop, replicate}
 use Rattle.wire_message.specs.Message.{Bytes}
 use Rattle.file_format.specs.File.{fileBytes}
+use Rattle.claim_values.specs.Values.{TimedRecord, io}
 use Rattle.claim_examples.specs.Session as e
-use Rattle.claim_delivery.specs.Recording.{Recording, TimedRecord, io, records}
+use Rattle.claim_delivery.specs.Recording.{Recording, records}
 use Rattle.claim_delivery.specs.World.{Event, opening, bytes, tick, arrival, break, file}
 use Rattle.claim_delivery.specs.Demand.{Given, Listed, after}
 
@@ -52,7 +53,7 @@ abbrev pub story : List Event
 story = first ++ (second ++ third)
 
 pub record Story : Type 0 where
-  -- what the theorem asks for is met
+  -- what the theorem requires is met
   pub given : Given blank recording
   pub listed : Listed blank recording story
   -- four timed records before the break, and the point before the last of them

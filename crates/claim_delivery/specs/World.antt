@@ -23,6 +23,10 @@ pub record Connection : Type 0 where
   pub line : Bytes
   pub out : List Answer
 
+-- with other answers under way
+abbrev pub sending : Connection → List Answer → Connection
+sending c out = record { area = c .area; session = c .session; line = c .line; out = out }
+
 -- the areas by number: whole lent bytes, used length, n in the book; the log of whole restarts; the sender's latest point and
 -- whether it has stopped; the bytes at the host of a frame cut in part; the connection
 pub record World : Type 0 where
@@ -140,7 +144,7 @@ unfoldable pub arrived : World → Connection → List Answer → World
 arrived w c [] = w
 arrived w c (a ∷ out) =
     withConnection w (latestAfter (c .area) (w .latest) a) (stoppedAfter (w .stopped) a) (w .part)
-    (some (record { area = c .area; session = c .session; line = c .line; out = out }))
+    (some (sending c out))
 
 -- ---- one event
 
@@ -159,7 +163,7 @@ module _ (R : Recording) where
   inside w c (bytes k) = cameIn R w c (drop k (c .line)) (cutAll (w .part ++ take k (c .line)))
   inside w c tick =
       withConnection w (w .latest) (w .stopped) (w .part)
-      (some (record { area = c .area; session = c .session; line = c .line; out = c .out ++ tickAnswers (session.tick (c .session)) }))
+      (some (sending c (c .out ++ tickAnswers (session.tick (c .session)))))
   inside w c arrival = arrived w c (c .out)
   inside w c break = withConnection w (w .latest) (w .stopped) [] none
 

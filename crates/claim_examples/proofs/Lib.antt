@@ -1,2 +1,4 @@
+pub mod Computing
 pub mod Session
 pub mod Marked
+pub mod Logged

@@ -1,5 +1,5 @@
 -- What a writer takes is read again. Document 01: "What the writer writes reads back as the same values." The ranges stand twice:
--- a writer asks those of `fits`, on the numbers it is given, a reader those of `range`, on the values it read. Here a message that
+-- a writer tests those of `write_message`, on the numbers it is given, a reader those of `wire_range`, on the values it read. Here a message that
 -- a writer makes without a refusal is read without one, ranges included, and has the values that were written.
 use Prim.Native.Nat.{ℕ, _-_, _^_, _≤_, _<_}
 use mathlib.Core.Path.{_≡_}
@@ -57,7 +57,7 @@ valuesFit f (clientHello d) = clientHelloFits f
 abbrev pub TakenClient : ℕ → ClientDraft → Type 0
 TakenClient f d = Taken (runOf d) (valuesFit f d) (wrapped f (clientPieces d))
 
--- What no range tells: where "any seconds" are taken they are a number of 64 bits, as the argument is; and the kind of an I/O
+-- What no range says: where "any seconds" are taken they are a number of 64 bits, as the argument is; and the kind of an I/O
 -- buffer, 6 to 10, which a buffer by itself does not show.
 abbrev pub Given : ClientDraft → Type 0
 Given (accept t r e) = t .seconds < 2 ^ 64
@@ -94,14 +94,14 @@ pub record RunAgain (f : ℕ) (s : Bytes) (es : List m.Entry) : Type 0 where
 
 -- ---- the claims
 
--- Every message of `client_writer`, `server_writer` and `entry_writer`: as the member of the message around it, an entry as a field
+-- Every message of `write_client`, `write_io`, `write_server` and `write_entry`: as the member of the message around it, an entry as a field
 -- of its run, and by itself, which is member 0. `Given`, `Stamped`, `EntryParts` and `AllFit` say that numbers have 64 bits, as
 -- the writers' arguments do.
 pub record Reread : Type 0 where
   pub client : (d : ClientDraft) → Given d → TakenClient (clientNumber d) d → ClientAgain d
   pub client-alone : (d : ClientDraft) → Given d → TakenClient 0 d
       → BodyAgain (kindOf ClientMessage (clientNumber d) - message 0) (clientPieces d) (clientMember (clientNumber d)) (meantClient d)
-  -- what is taken keeps what RoundTrip asks: to read back, and, for "Each message has one written form", to mean one form
+  -- what is taken keeps what RoundTrip requires: to read back, and, for "Each message has one written form", to mean one form
   pub client-writable : (d : ClientDraft) → Given d → TakenClient (clientNumber d) d → WritableClient d
   pub client-narrow : (f : ℕ) (d : ClientDraft) → Given d → TakenClient f d → NarrowClient d
   -- the servers are "lent as joined bytes and ends"
@@ -122,7 +122,7 @@ pub record Reread : Type 0 where
       → RunAgain f (wrapped f (entryPieces key v)) (meantEntry key v ∷ [])
   pub entry-alone : (key : Bytes) (v : EntryDraft) → EntryParts v → Taken 0 (entryFits 0 key) (wrapped 0 (entryPieces key v))
       → BodyAgain InfoMessage (entryPieces key v) m.entry (meantEntry key v)
-  -- an entry of strings is asked its ends as well
+  -- of an entry of strings the ends are tested as well
   pub entry-strings : (f : ℕ) (key joined : Bytes) (ends : List ℕ) (s : Bytes) → Taken 0 (entryStringsFits f key joined ends) s
       → Taken 0 (entryFits f key) s
   pub string-list : (joined : Bytes) (ends : List ℕ) → Taken 0 (endsFit joined ends) (wrapped 0 (stringListPieces (cutAt joined 0 ends)))

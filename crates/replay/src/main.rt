@@ -1,5 +1,5 @@
 // Replays a recorded client stream: reads it from standard input and prints, for each frame, what a session over one area
-// answers. What is decided and what is printed stands in `report`, `wording` and `ending`, proved; here bytes come in and lines go out.
+// answers. What is decided and what is printed stands in `replay_turn` and `replay_lines`, proved; here bytes come in and lines go out.
 use libc::STDIN_FILENO;
 use libc::STDOUT_FILENO;
 use replay_lines::end::End;
@@ -18,7 +18,7 @@ fn finish(out: &mut [u8], frames: u64, end: End) {
     io::write_all(STDOUT_FILENO, &out[..n]);
 }
 
-// Moves the bytes at hand to the window's start and reads more behind them: what `read` answered.
+// Moves the bytes at hand to the window's start and reads more behind them: what `read` returned.
 fn refill(window: &mut [u8], from: usize, held: usize) -> isize
     requires { ⌜ (from ≤ held) × (held ≤ length (now window)) ⌝ }
 {

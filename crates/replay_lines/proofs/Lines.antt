@@ -7,8 +7,8 @@ use mathlib.Core.Bool.{Bool, true, false}
 use lib.ListN.{length}
 use lib.Dec.{leb}
 use borrow.Author.Tests.{le-leb, lt-leb}
-use Rattle.write_pieces.specs.Put.{Put}
-use Rattle.write_pieces.proofs.Puts.{nothing}
+use Rattle.base_copy.specs.Put.{Put}
+use Rattle.base_copy.proofs.Puts.{nothing}
 use Rattle.session.specs.Step.{outcome}
 use Rattle.session.specs.declared.Answer.{Answer}
 use Rattle.replay_lines.specs.Wording.{frameLine, written, lineLength}

@@ -7,12 +7,12 @@ use Rattle.replay_text.specs.Words.{text, decimal}
 use Rattle.replay_lines.specs.declared.end.End.{End}
 use Rattle.replay_lines.specs.declared.end.End.the-variants as end
 
-unfoldable pub ending : End → List ℕ
-ending (end.Input left) = pick (eqb left 0) [] (text ", " ++ decimal left ++ text " bytes left over")
-ending (end.Beyond size window) =
+unfoldable pub endText : End → List ℕ
+endText (end.Input left) = pick (eqb left 0) [] (text ", " ++ decimal left ++ text " bytes left over")
+endText (end.Beyond size window) =
     text ", then a frame of " ++ decimal size ++ text " bytes, beyond the window of " ++ decimal window
-ending end.Refused = text ", then refused 1"
-ending end.Unread = text ", then the input could not be read"
+endText end.Refused = text ", then refused 1"
+endText end.Unread = text ", then the input could not be read"
 
 unfoldable pub endLine : ℕ → End → List ℕ
-endLine n e = text "end: " ++ decimal n ++ text " frames" ++ ending e ++ text "\n"
+endLine n e = text "end: " ++ decimal n ++ text " frames" ++ endText e ++ text "\n"

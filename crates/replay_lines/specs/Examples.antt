@@ -13,7 +13,7 @@ use Rattle.replay_lines.specs.Wording.{frameLine}
 use Rattle.replay_lines.specs.Ending.{endLine}
 use Rattle.replay_lines.specs.declared.end.End.the-variants as end
 
--- an answer, by what a line tells of it
+-- an answer, by what a line shows of it
 abbrev pub answer : ℕ → ℕ → Point → State → ℕ → Outcome
 answer refusal key p state used = record {
   refusal = refusal;

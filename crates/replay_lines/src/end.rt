@@ -1,12 +1,12 @@
 // The last line of a replay, written at the start of a lent buffer. A buffer of 256 bytes has room for it.
+use base_copy::put_raw;
 use replay_text::numbers::put_decimal;
-use write_pieces::part::put_raw;
 ghost use mathlib.Core.Path.{_≡_};
 ghost use Prim.Native.Nat.{_+_, _≤_};
 ghost use lib.ListN.{length};
-ghost use Rattle.write_pieces.specs.Put.{Put};
+ghost use Rattle.base_copy.specs.Put.{Put};
 ghost use Rattle.replay_lines.specs.Wording.{written, lineLength};
-ghost use Rattle.replay_lines.specs.Ending.{ending, endLine};
+ghost use Rattle.replay_lines.specs.Ending.{endText, endLine};
 
 // What a replay ends with.
 pub enum End {
@@ -22,7 +22,7 @@ pub enum End {
 
 fn put_ending(out: &mut [u8], at: usize, end: End) -> usize
     requires { ⌜ at + 87 ≤ length (now out) ⌝ }
-    ensures { λ r. ⌜ (Put (now (out .entry)) at (ending end) (now (out .exit)) r) × (r ≤ at + 87) ⌝ }
+    ensures { λ r. ⌜ (Put (now (out .entry)) at (endText end) (now (out .exit)) r) × (r ≤ at + 87) ⌝ }
 {
     match end {
         End::Input { left } => {

@@ -1,4 +1,5 @@
 // The line of a frame, written at the start of a lent buffer. A buffer of 256 bytes has room for it.
+use base_copy::put_raw;
 use replay_text::names::member_of;
 use replay_text::names::put_member;
 use replay_text::names::put_state;
@@ -7,14 +8,13 @@ use replay_text::numbers::put_nine;
 use session::Answer;
 use session::Point;
 use session_turn::State;
-use write_pieces::part::put_raw;
 ghost use mathlib.Core.Path.{_≡_};
 ghost use mathlib.Core.List.{[]};
 ghost use Prim.Native.Nat.{_+_, _≤_};
 ghost use lib.ListN.{length};
-ghost use Rattle.write_pieces.specs.Put.{Put};
+ghost use Rattle.base_copy.specs.Put.{Put};
 ghost use Rattle.session.specs.Step.{outcome};
-ghost use Rattle.replay_text.specs.Names.{memberOf};
+ghost use Rattle.replay_text.specs.Names.{shownMember};
 ghost use Rattle.replay_lines.specs.Wording.{heading, verdict, standing, pointText, keyText, frameLine, written, lineLength};
 
 fn put_heading(out: &mut [u8], n: u64) -> usize
@@ -91,8 +91,8 @@ fn put_frame(out: &mut [u8], n: u64, member: u64, answer: Answer) -> usize
 
 // The line of the n-th frame, with the message s, and its length.
 pub fn frame_line(out: &mut [u8], n: u64, s: &[u8], answer: Answer) -> usize
-    ensures line { λ r. ⌜ now (out .exit) ≡ written (frameLine n (memberOf (now (s .entry))) (outcome answer [])) (now (out .entry)) ⌝ }
-    ensures size { λ r. ⌜ r ≡ lineLength (frameLine n (memberOf (now (s .entry))) (outcome answer [])) (now (out .entry)) ⌝ }
+    ensures line { λ r. ⌜ now (out .exit) ≡ written (frameLine n (shownMember (now (s .entry))) (outcome answer [])) (now (out .entry)) ⌝ }
+    ensures size { λ r. ⌜ r ≡ lineLength (frameLine n (shownMember (now (s .entry))) (outcome answer [])) (now (out .entry)) ⌝ }
     ensures within { λ r. ⌜ r ≤ length (now (out .entry)) ⌝ }
 {
     if 256 <= out.len() {

@@ -7,7 +7,7 @@ use lib.ListN.{length}
 use lib.Dec.{T, leb, leb→le}
 use borrow.Author.Tests.{ne-eqb}
 use Rattle.base_laws.proofs.Order.{Apart}
-use Rattle.write_pieces.specs.Put.{Put}
+use Rattle.base_copy.specs.Put.{Put}
 use Rattle.replay_text.specs.Names.{memberName}
 
 -- the name of k put, of at most 13 bytes, where m is k

@@ -26,8 +26,8 @@ memberName m =
     (text "hello_msg"))))))))))))
 
 -- the member that counts: the last of fields 1 to 13
-unfoldable pub memberOf : List ℕ → ℕ
-memberOf s = memberFrom (lastIn 1 13 s)
+unfoldable pub shownMember : List ℕ → ℕ
+shownMember s = memberFrom (lastIn 1 13 s)
 
 unfoldable pub stateName : State → List ℕ
 stateName New = text "new"

@@ -1,18 +1,18 @@
-// The names in a line: those of a ClientMessage's members and of a session's states. As in `words`, `put_..` requires the room and answers
+// The names in a line: those of a ClientMessage's members and of a session's states. As in `numbers`, `put_..` requires the room and returns
 // the place after what it put.
+use base_copy::put_raw;
 use session_turn::State;
 use wire_fields::Last;
 use wire_fields::last_in;
-use write_pieces::part::put_raw;
 ghost use mathlib.Core.Path.{_≡_};
 ghost use Prim.Native.Nat.{_+_, _≤_};
 ghost use lib.ListN.{length};
-ghost use Rattle.write_pieces.specs.Put.{Put};
-ghost use Rattle.replay_text.specs.Names.{memberName, memberOf, stateName};
+ghost use Rattle.base_copy.specs.Put.{Put};
+ghost use Rattle.replay_text.specs.Names.{memberName, shownMember, stateName};
 
 // The number of the member that counts, 0 for none.
 pub fn member_of(s: &[u8]) -> u64
-    ensures { λ r. ⌜ r ≡ memberOf (now (s .entry)) ⌝ }
+    ensures { λ r. ⌜ r ≡ shownMember (now (s .entry)) ⌝ }
 {
     match last_in(s, 1, 13) {
         Last::Nothing => 0,

@@ -1,16 +1,16 @@
 // The numbers in a line, in decimal. These functions are for the lines above, which
-// have seen to the room before they put anything: `put_..` requires it, and answers the place after what it put.
-use write_pieces::part::put_raw;
+// show that there is room before they put anything: `put_..` requires it, and returns the place after what it put.
+use base_copy::put_raw;
 ghost use mathlib.Core.Path.{_≡_};
 ghost use Prim.Native.Nat.{_+_, _≤_, _<_};
 ghost use lib.ListN.{length};
-ghost use Rattle.write_pieces.specs.Put.{Put};
-ghost use Rattle.replay_text.specs.Words.{digits, decimal, nine};
+ghost use Rattle.base_copy.specs.Put.{Put};
+ghost use Rattle.replay_text.specs.Words.{decimalDigits, decimal, nine};
 
 // The last digit stands after all the others, so the others are put first.
 fn put_digits(out: &mut [u8], at: usize, n: u64, k: usize) -> usize
     requires { ⌜ at + k ≤ length (now out) ⌝ }
-    ensures { λ r. ⌜ (Put (now (out .entry)) at (digits k n) (now (out .exit)) r) × (r ≤ at + k) ⌝ }
+    ensures { λ r. ⌜ (Put (now (out .entry)) at (decimalDigits k n) (now (out .exit)) r) × (r ≤ at + k) ⌝ }
 {
     if k == 0 {
         return at;

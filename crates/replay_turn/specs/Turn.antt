@@ -4,7 +4,7 @@ use mathlib.Core.List.{List, []}
 use lib.Dec.{ltb}
 use Rattle.base_laws.specs.Base.{pick, part}
 use Rattle.session.specs.Step.{Outcome, newSession, step}
-use Rattle.replay_text.specs.Names.{memberOf}
+use Rattle.replay_text.specs.Names.{shownMember}
 use Rattle.replay_lines.specs.Wording.{frameLine}
 use Rattle.replay_lines.specs.Ending.{endLine}
 use Rattle.replay_lines.specs.declared.end.End.the-variants as end
@@ -24,20 +24,20 @@ abbrev pub started : Replay
 started = record { session = newSession; used = 0; frames = 0 }
 
 -- frames are counted up to the greatest number of 64 bits
-unfoldable pub counted : ℕ → ℕ
-counted n = pick (ltb n 18446744073709551615) (n + 1) n
+unfoldable pub frameCounted : ℕ → ℕ
+frameCounted n = pick (ltb n 18446744073709551615) (n + 1) n
 
 -- a frame of this size is handed to the session, whatever the session answered before, with the used length last answered
 module _ (re : Replay) (s area : List ℕ) (size : ℕ) where
-  abbrev pub answered : Outcome
-  answered = step (re .session) area (re .used) (part s 4 size)
+  abbrev pub frameAnswer : Outcome
+  frameAnswer = step (re .session) area (re .used) (part s 4 size)
 
   unfoldable pub handed : Turned
   handed = record {
-    replay = record { session = answered .session; used = answered .used; frames = counted (re .frames) };
+    replay = record { session = frameAnswer .session; used = frameAnswer .used; frames = frameCounted (re .frames) };
     next = Frame size;
-    line = frameLine (counted (re .frames)) (memberOf (part s 4 size)) answered;
-    area = answered .area;
+    line = frameLine (frameCounted (re .frames)) (shownMember (part s 4 size)) frameAnswer;
+    area = frameAnswer .area;
   }
 
 unfoldable pub byNext : Replay → List ℕ → ℕ → List ℕ → Next → Turned

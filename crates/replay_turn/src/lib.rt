@@ -12,7 +12,7 @@ ghost use mathlib.Core.Path.{_≡_};
 ghost use Prim.Native.Nat.{_≤_};
 ghost use lib.ListN.{length};
 ghost use Rattle.replay_lines.specs.Wording.{written, lineLength};
-ghost use Rattle.replay_window.specs.Window.{Within};
+ghost use Rattle.replay_window.specs.Window.{FrameWithin};
 ghost use Rattle.replay_turn.specs.Turn as t;
 ghost use Rattle.replay_turn.specs.Turn.{turned};
 
@@ -42,7 +42,7 @@ pub fn start() -> Replay
 }
 
 fn counted(n: u64) -> u64
-    ensures { λ r. ⌜ r ≡ t.counted n ⌝ }
+    ensures { λ r. ⌜ r ≡ t.frameCounted n ⌝ }
 {
     if n < 18446744073709551615 {
         return n + 1;
@@ -58,7 +58,7 @@ pub fn turn(re: Replay, s: &[u8], window: usize, area: &mut [u8], out: &mut [u8]
     ensures area { λ r. ⌜ now (area .exit) ≡ turned re (now (s .entry)) window (now (area .entry)) .area ⌝ }
     ensures line { λ r. ⌜ now (out .exit) ≡ written (turned re (now (s .entry)) window (now (area .entry)) .line) (now (out .entry)) ⌝ }
     ensures size { λ r. ⌜ r .line ≡ lineLength (turned re (now (s .entry)) window (now (area .entry)) .line) (now (out .entry)) ⌝ }
-    ensures within { λ r. ⌜ (r .line ≤ length (now (out .entry))) × Within (length (now (s .entry))) (r .next) ⌝ }
+    ensures within { λ r. ⌜ (r .line ≤ length (now (out .entry))) × FrameWithin (length (now (s .entry))) (r .next) ⌝ }
 {
     match decide(s, window) {
         Next::Wait => Shown {

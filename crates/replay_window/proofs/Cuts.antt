@@ -9,7 +9,7 @@ use Rattle.base_laws.proofs.Order.{picked}
 use Rattle.wire_frame.specs.Frame.{cutOf, lengthOf, largest}
 use Rattle.wire_frame.specs.declared.Cut.{Cut}
 use Rattle.wire_frame.specs.declared.Cut.the-variants as cut
-use Rattle.replay_window.specs.Window.{byCut, nextOf, Within}
+use Rattle.replay_window.specs.Window.{byCut, nextOf, FrameWithin}
 use Rattle.replay_window.specs.declared.Next.the-variants.{Wait, Beyond}
 
 abbrev pub Sized : ℕ → Cut → Type 0
@@ -29,12 +29,12 @@ sized s =
     (λ g. let l = ltb-true (length s) (4 + lengthOf s) g in omega arith)
     (λ g. ltb-false (length s) (4 + lengthOf s) g)))
 
-pub by-cut-within : (n window : ℕ) (c : Cut) → Sized n c → Within n (byCut n window c)
-unfolding byCut Within
-by-cut-within n window (cut.Wait missing) h = picked (Within n) (ltb window (n + missing)) (Beyond (n + missing)) Wait (λ _. tt) (λ _. tt)
+pub by-cut-within : (n window : ℕ) (c : Cut) → Sized n c → FrameWithin n (byCut n window c)
+unfolding byCut FrameWithin
+by-cut-within n window (cut.Wait missing) h = picked (FrameWithin n) (ltb window (n + missing)) (Beyond (n + missing)) Wait (λ _. tt) (λ _. tt)
 by-cut-within n window (cut.Frame size) h = (omega arith, h)
 by-cut-within n window cut.Refused h = tt
 
-pub within : (s : List ℕ) (window : ℕ) → Within (length s) (nextOf s window)
+pub within : (s : List ℕ) (window : ℕ) → FrameWithin (length s) (nextOf s window)
 unfolding nextOf
 within s window = by-cut-within (length s) window (cutOf s) (sized s)

@@ -21,12 +21,12 @@ byCut n window cut.Refused = Refused
 unfoldable pub nextOf : List ℕ → ℕ → Next
 nextOf s window = byCut (length s) window (cutOf s)
 
--- a frame lies within n bytes, its message behind its first four
-unfoldable pub Within : ℕ → Next → Type 0
-Within n Wait = Unit
-Within n (Frame size) = (4 ≤ size) × (size ≤ n)
-Within n (Beyond size) = Unit
-Within n Refused = Unit
+-- a frame is within n bytes, its message behind its first four
+unfoldable pub FrameWithin : ℕ → Next → Type 0
+FrameWithin n Wait = Unit
+FrameWithin n (Frame size) = (4 ≤ size) × (size ≤ n)
+FrameWithin n (Beyond size) = Unit
+FrameWithin n Refused = Unit
 
 -- ---- the window
 

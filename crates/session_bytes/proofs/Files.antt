@@ -12,7 +12,7 @@ use Rattle.base_laws.proofs.Order.{picked, both-true}
 use Rattle.base_laws.proofs.Parts.{length-part}
 use Rattle.file_format.specs.Digits.{value}
 use Rattle.file_format.specs.Record.{second, Record, recordBytes}
-use Rattle.file_format.specs.File.{Found, whole, broken, unpacked, recordAt, Records, all, none, before, onFound, recordsFrom, recordsOf, fileBytes, keep}
+use Rattle.file_format.specs.File.{Found, whole, broken, unpacked, recordAt, Records, all, none, withFirst, onFound, recordsFrom, recordsOf, fileBytes, keep}
 use Rattle.file_format.proofs.Records.{length-record}
 use Rattle.file_format.proofs.Appends.{file-append}
 use Rattle.file_format.proofs.Restarts.{keep-begins}
@@ -42,31 +42,31 @@ record-ends s at =
     picked (Ends s at) (leb (at + 11) (length s)) _ broken (λ _. unpacked-ends s at (value (part s at (at + 11)))) (λ _. tt)
 
 -- records that lie from a place on
-abbrev Lie : List ℕ → ℕ → Records → Type 0
-Lie s at none = Unit
-Lie s at (all rs) = at + length (fileBytes rs) ≤ length s
+abbrev InBounds : List ℕ → ℕ → Records → Type 0
+InBounds s at none = Unit
+InBounds s at (all rs) = at + length (fileBytes rs) ≤ length s
 
-before-lie : (s : List ℕ) (at e : ℕ) (r : Record) (rs : Records) → Ends s at (whole r e) → Lie s e rs → Lie s at (before r rs)
-unfolding before fileBytes
-before-lie s at e r none b l = tt
-before-lie s at e r (all rs) b l = omega (arith, b .0, length-append (recordBytes r) (fileBytes rs))
+before-are-in-bounds : (s : List ℕ) (at e : ℕ) (r : Record) (rs : Records) → Ends s at (whole r e) → InBounds s e rs → InBounds s at (withFirst r rs)
+unfolding withFirst fileBytes
+before-are-in-bounds s at e r none b l = tt
+before-are-in-bounds s at e r (all rs) b l = omega (arith, b .0, length-append (recordBytes r) (fileBytes rs))
 
-found-lie : (s : List ℕ) (at : ℕ) (go : ℕ → Records) → ((e : ℕ) → e ≤ length s → Lie s e (go e)) → (f : Found) → Ends s at f → Lie s at (onFound go f)
+found-are-in-bounds : (s : List ℕ) (at : ℕ) (go : ℕ → Records) → ((e : ℕ) → e ≤ length s → InBounds s e (go e)) → (f : Found) → Ends s at f → InBounds s at (onFound go f)
 unfolding onFound
-found-lie s at go more (whole r e) b = before-lie s at e r (go e) b (more e (b .1))
-found-lie s at go more broken b = tt
+found-are-in-bounds s at go more (whole r e) b = before-are-in-bounds s at e r (go e) b (more e (b .1))
+found-are-in-bounds s at go more broken b = tt
 
-from-lie : (n : ℕ) (s : List ℕ) (at : ℕ) → at ≤ length s → Lie s at (recordsFrom n s at)
+from-are-in-bounds : (n : ℕ) (s : List ℕ) (at : ℕ) → at ≤ length s → InBounds s at (recordsFrom n s at)
 unfolding recordsFrom fileBytes
-from-lie zero s at h = tt
-from-lie (suc n) s at h =
-    picked (Lie s at) (ltb at (length s)) _ (all [])
-    (λ _. found-lie s at (recordsFrom n s) (λ e k. from-lie n s e k) (recordAt s at) (record-ends s at))
+from-are-in-bounds zero s at h = tt
+from-are-in-bounds (suc n) s at h =
+    picked (InBounds s at) (ltb at (length s)) _ (all [])
+    (λ _. found-are-in-bounds s at (recordsFrom n s) (λ e k. from-are-in-bounds n s e k) (recordAt s at) (record-ends s at))
     (λ _. omega arith)
 
-records-lie : (s : List ℕ) → Lie s 0 (recordsOf s)
+records-are-in-bounds : (s : List ℕ) → InBounds s 0 (recordsOf s)
 unfolding recordsOf
-records-lie s = from-lie (suc (length s)) s 0 (omega arith)
+records-are-in-bounds s = from-are-in-bounds (suc (length s)) s 0 (omega arith)
 
 -- the bytes that a restart keeps of the records of s
 pub kept-within : (s : List ℕ) (t : ℕ) (rs : List Record) → recordsOf s ≡ all rs → length (fileBytes (keep t 0 rs)) ≤ length s
@@ -74,5 +74,5 @@ kept-within s t rs e =
     let k = keep-begins t 0 rs in
     let size : length (fileBytes rs) ≡ length (fileBytes (keep t 0 rs)) + length (fileBytes (k .0)) =
     ap length (ap fileBytes (k .1) ∙ file-append (keep t 0 rs) (k .0)) ∙ length-append (fileBytes (keep t 0 rs)) (fileBytes (k .0)) in
-    let l : 0 + length (fileBytes rs) ≤ length s = rw e at (records-lie s) in
+    let l : 0 + length (fileBytes rs) ≤ length s = rw e at (records-are-in-bounds s) in
     omega arith

@@ -17,7 +17,9 @@ use Rattle.file_format.specs.Record.{Record, recordBytes}
 use Rattle.file_format.specs.File.{limit, Records, all, none, recordsOf, fileBytes, total, lowTotal, FileKind, invalid, unfinished, finished, recordsKind, meets, keep}
 use Rattle.file_format.proofs.Beginnings.{low-found, low-none}
 use Rattle.file_format.proofs.Restarts.{keep-total}
-use Rattle.session_turn.specs.Turn.{Turn, to, notNow, turn}
+use Rattle.session_turn.specs.Turn.{turn}
+use Rattle.session_turn.specs.declared.Turn.{Turn}
+use Rattle.session_turn.specs.declared.Turn.the-variants.{To, NotNow}
 use Rattle.session.specs.Step.{Outcome, moment, acceptRecord, inState, grown, withinArea, lengthsFit, growthRefusal, refuse, roomFor, timed, entriesFirst, acceptStored, onAccept, onReject, exitStored, onExit, resumed, byKind, ofRecords, onRestart, act, inTurn, onReading, step}
 use Rattle.session.proofs.Moments.{moment-most, point-fits}
 use Rattle.session.proofs.Lengths.{within-area, lengths}
@@ -173,8 +175,8 @@ module _ (se : Session) (h : Sound se) (area : Bytes) (used : ℕ) where
 
   turn-sound : (t : Turn) (d : Bytes) (c : Client) → After (inTurn se area used t d c)
   unfolding inTurn
-  turn-sound (to st) d c = act-sound st d c
-  turn-sound notNow d c = refused-sound 9 0
+  turn-sound (To st) d c = act-sound st d c
+  turn-sound NotNow d c = refused-sound 9 0
 
   reading-sound : (d : Bytes) (r : Reading Client) → After (onReading se area used d r)
   unfolding onReading

@@ -19,7 +19,7 @@ use Rattle.session_turn.specs.declared.State.the-variants.{New, Greeted, Loggin
 use Rattle.session.specs.declared.Mark.{Mark}
 use Rattle.session.specs.declared.Mark.the-variants as mark
 use Rattle.session.specs.declared.Session.{Session}
-use Rattle.session_bytes.specs.Saved.{stateNumber, markNumber, markPoint, sessionNumbers, sessionBytes, closed, stateOf, markOf, areSession, fromNumbers, sessionOf}
+use Rattle.session_bytes.specs.Saved.{stateNumber, markNumber, markPoint, sessionNumbers, sessionBytes, closed, savedState, savedMark, areSession, fromNumbers, sessionOf}
 use Rattle.session_bytes.specs.Sound.{MarkSound, Sound}
 use Rattle.session_bytes.proofs.Slices.{number-most}
 
@@ -33,7 +33,7 @@ module _ (used total low : ℕ) (hu : used ≤ 1073741824) (ht : total ≤ limit
   within t h = rw (le-leb used 1073741824 hu, le-leb total limit ht, le-leb low limit hl) (le-leb t limit h)
 
   from-session : (st : State) (m : Mark) → MarkSound m → fromNumbers (stateNumber st + markNumber m) used total low (markPoint m) ≡ made st m used total low
-  unfolding fromNumbers areSession stateNumber markNumber markPoint stateOf markOf
+  unfolding fromNumbers areSession stateNumber markNumber markPoint savedState savedMark
   from-session New mark.Nothing h = rw (within 0 (omega arith))
   from-session Greeted mark.Nothing h = rw (within 0 (omega arith))
   from-session Logging mark.Nothing h = rw (within 0 (omega arith))
@@ -76,8 +76,8 @@ back se h =
 
 -- ---- what reads as a session is the session's bytes
 
-state-again : (n : ℕ) → n ≤ 4 → stateNumber (stateOf n) ≡ n
-unfolding stateNumber stateOf
+state-again : (n : ℕ) → n ≤ 4 → stateNumber (savedState n) ≡ n
+unfolding stateNumber savedState
 state-again n h =
     cases (eqb n 0) (λ e. rw e (omega (arith, eqb-true n 0 e)))
     (λ a.
@@ -91,8 +91,8 @@ state-again n h =
 
 -- the first number and the point, where they are a session's
 module _ (n t : ℕ) (is : pick (leb 8 n) (leb n 12) (both (leb n 4) (eqb t 0)) ≡ true) where
-  number-again : stateNumber (stateOf (pick (leb 8 n) (n - 8) n)) + markNumber (markOf n t) ≡ n
-  unfolding markNumber markOf
+  number-again : stateNumber (savedState (pick (leb 8 n) (n - 8) n)) + markNumber (savedMark n t) ≡ n
+  unfolding markNumber savedMark
   number-again =
       cases (leb 8 n)
       (λ e.
@@ -100,8 +100,8 @@ module _ (n t : ℕ) (is : pick (leb 8 n) (leb n 12) (both (leb n 4) (eqb t 0)) 
       rw e (omega (arith, leb-true 8 n e, leb-true n 12 m, state-again (n - 8) (omega (arith, leb-true n 12 m)))))
       (λ e. let m : both (leb n 4) (eqb t 0) ≡ true = rw e at is in rw e (omega (arith, state-again n (leb-true n 4 (both-true (leb n 4) (eqb t 0) m .0)))))
 
-  point-again : markPoint (markOf n t) ≡ t
-  unfolding markPoint markOf
+  point-again : markPoint (savedMark n t) ≡ t
+  unfolding markPoint savedMark
   point-again =
       cases (leb 8 n) (λ e. rw e)
       (λ e. let m : both (leb n 4) (eqb t 0) ≡ true = rw e at is in rw e (sym (eqb-true t 0 (both-true (leb n 4) (eqb t 0) m .1))))
@@ -122,7 +122,7 @@ other s h =
     let is = both-true (pick (leb 8 n) (leb n 12) (both (leb n 4) (eqb t 0))) (both (leb u 1073741824) (both (leb a limit) (both (leb l limit) (leb t limit)))) f .0 in
     inl (five-back s h (eqb-true (length s) 40 e)
     ∙ ap (λ (x : ℕ). eights (x ∷ u ∷ a ∷ l ∷ t ∷ [])) (sym (number-again n t is))
-    ∙ ap (λ (x : ℕ). eights ((stateNumber (stateOf (pick (leb 8 n) (n - 8) n)) + markNumber (markOf n t)) ∷ u ∷ a ∷ l ∷ x ∷ [])) (sym (point-again n t is))))
+    ∙ ap (λ (x : ℕ). eights ((stateNumber (savedState (pick (leb 8 n) (n - 8) n)) + markNumber (savedMark n t)) ∷ u ∷ a ∷ l ∷ x ∷ [])) (sym (point-again n t is))))
     (λ _. inr refl))
     (λ _. inr refl)
 
@@ -131,8 +131,8 @@ other s h =
 closed-sound : Sound closed
 closed-sound = record { used = omega arith; total = omega arith; low = omega arith; mark = tt }
 
-mark-sound : (n t : ℕ) → t ≤ limit → MarkSound (markOf n t)
-unfolding markOf
+mark-sound : (n t : ℕ) → t ≤ limit → MarkSound (savedMark n t)
+unfolding savedMark
 mark-sound n t h = picked MarkSound (leb 8 n) (mark.At t) mark.Nothing (λ _. h) (λ _. tt)
 
 from-sound : (n used total low t : ℕ) → Sound (fromNumbers n used total low t)

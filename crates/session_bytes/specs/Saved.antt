@@ -49,12 +49,12 @@ kept se slice = pick (eqb (length slice) 40) (sessionBytes se) slice
 abbrev pub closed : Session
 closed = record { state = Closed; used = 0; total = 0; low = 0; mark = mark.Nothing }
 
-unfoldable pub stateOf : ℕ → State
-stateOf n = pick (eqb n 0) New (pick (eqb n 1) Greeted (pick (eqb n 2) Logging (pick (eqb n 3) EventsOnly Closed)))
+unfoldable pub savedState : ℕ → State
+savedState n = pick (eqb n 0) New (pick (eqb n 1) Greeted (pick (eqb n 2) Logging (pick (eqb n 3) EventsOnly Closed)))
 
 -- 8 and more says that the point stands
-unfoldable pub markOf : ℕ → ℕ → Mark
-markOf n t = pick (leb 8 n) (mark.At t) mark.Nothing
+unfoldable pub savedMark : ℕ → ℕ → Mark
+savedMark n t = pick (leb 8 n) (mark.At t) mark.Nothing
 
 -- are the numbers those of a session: each within document 01's limits, and no point where none stands
 unfoldable pub areSession : ℕ → ℕ → ℕ → ℕ → ℕ → Bool
@@ -65,7 +65,7 @@ areSession n used total low t =
 unfoldable pub fromNumbers : ℕ → ℕ → ℕ → ℕ → ℕ → Session
 fromNumbers n used total low t =
     pick (areSession n used total low t)
-    (record { state = stateOf (pick (leb 8 n) (n - 8) n); used = used; total = total; low = low; mark = markOf n t })
+    (record { state = savedState (pick (leb 8 n) (n - 8) n); used = used; total = total; low = low; mark = savedMark n t })
     closed
 
 unfoldable pub sessionOf : List ℕ → Session

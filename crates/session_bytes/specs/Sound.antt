@@ -29,5 +29,5 @@ pub record Keeping : Type 0 where
   -- such a session reads back from its bytes, which are 40
   pub back : (se : Session) → Sound se → sessionOf (sessionBytes se) ≡ se
   pub forty : (se : Session) → length (sessionBytes se) ≡ 40
-  -- bytes that are no session's answer as a closed one
+  -- bytes that are no session's count as a closed one
   pub other : (s : List ℕ) → ((i : ℕ) → getD s i 0 < 256) → (s ≡ sessionBytes (sessionOf s)) ⊎ (sessionOf s ≡ closed)

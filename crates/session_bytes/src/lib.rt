@@ -12,7 +12,10 @@ ghost use lib.Dec.{leb, eqb};
 ghost use Rattle.base_laws.specs.Base.{pick, both};
 ghost use Rattle.file_format.specs.File.{limit};
 ghost use Rattle.session_bytes.specs.Saved as s;
-ghost use Rattle.session_bytes.specs.Saved.{stateNumber, markNumber, markPoint, sessionOf, stateOf, markOf, areSession, fromNumbers, kept};
+ghost use Rattle.session_bytes.specs.Saved.{stateNumber, markNumber, markPoint, sessionOf, savedState, savedMark, areSession, fromNumbers, kept};
+
+// The length of the longest area.
+const AREA_LIMIT: u64 = 1073741824;
 
 // ---- from a session to its numbers
 
@@ -63,7 +66,7 @@ fn closed() -> Session
 }
 
 fn state_of(n: u64) -> State
-    ensures { λ r. ⌜ r ≡ stateOf n ⌝ }
+    ensures { λ r. ⌜ r ≡ savedState n ⌝ }
 {
     if n == 0 {
         return State::New;
@@ -91,7 +94,7 @@ fn without_mark(n: u64) -> u64
 }
 
 fn mark_of(n: u64, t: u64) -> Mark
-    ensures { λ r. ⌜ r ≡ markOf n t ⌝ }
+    ensures { λ r. ⌜ r ≡ savedMark n t ⌝ }
 {
     if 8 <= n {
         return Mark::At(t);
@@ -116,7 +119,7 @@ fn is_state(n: u64, t: u64) -> bool
 fn are_within(used: u64, total: u64, low: u64, t: u64) -> bool
     ensures { λ r. ⌜ r ≡ both (leb used 1073741824) (both (leb total limit) (both (leb low limit) (leb t limit))) ⌝ }
 {
-    if 1073741824 < used {
+    if AREA_LIMIT < used {
         return false;
     }
     if LIMIT < total {

@@ -14,7 +14,7 @@ use Rattle.wire_fields.specs.declared.Found.the-variants as found
 use Rattle.wire_elements.specs.Elements.{elementsAt}
 use Rattle.wire_elements.proofs.Elements.{all-elements, found-none, found-part}
 use Rattle.wire_message.specs.Message.{Bytes, Value, Entry, entry, entries}
-use Rattle.session_entries.specs.Required.{sameBytes, keyBytes, lastFrom, stringOrNone, typesFrom, lastValue, has, missingFrom}
+use Rattle.session_entries.specs.Required.{sameBytes, keyBytes, lastValueFrom, stringOrNone, typesFrom, lastValue, has, missingFrom}
 
 -- ---- the same bytes
 
@@ -69,8 +69,8 @@ spread : (t : Bool) (v w : Value) → stringOrNone (pick t v w) ≡ pick t (stri
 spread true v w = refl
 spread false v w = refl
 
-fits-last : (k : ℕ) (v : Value) (es : List Entry) → fitsFrom k (stringOrNone v) es ≡ stringOrNone (lastFrom k v es)
-unfolding fitsFrom lastFrom
+fits-last : (k : ℕ) (v : Value) (es : List Entry) → fitsFrom k (stringOrNone v) es ≡ stringOrNone (lastValueFrom k v es)
+unfolding fitsFrom lastValueFrom
 fits-last k v [] = refl
 fits-last k v (e ∷ es) =
     ap (λ (t : Bool). fitsFrom k t es) (sym (spread (sameBytes (e .key) (keyBytes k)) (e .value) v))

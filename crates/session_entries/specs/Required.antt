@@ -23,12 +23,12 @@ keyBytes k =
     (115 ∷ 117 ∷ 98 ∷ 109 ∷ 105 ∷ 116 ∷ 117 ∷ 115 ∷ 101 ∷ 114 ∷ [])))
 
 -- the value of the last entry with the key k; absent where there is none
-unfoldable pub lastFrom : ℕ → Value → List Entry → Value
-lastFrom k v [] = v
-lastFrom k v (e ∷ es) = lastFrom k (pick (sameBytes (e .key) (keyBytes k)) (e .value) v) es
+unfoldable pub lastValueFrom : ℕ → Value → List Entry → Value
+lastValueFrom k v [] = v
+lastValueFrom k v (e ∷ es) = lastValueFrom k (pick (sameBytes (e .key) (keyBytes k)) (e .value) v) es
 
 abbrev pub lastValue : ℕ → List Entry → Value
-lastValue k es = lastFrom k absent es
+lastValue k es = lastValueFrom k absent es
 
 -- is it of no other type than a string
 unfoldable pub stringOrNone : Value → Bool

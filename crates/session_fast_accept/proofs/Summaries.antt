@@ -8,7 +8,7 @@ use mathlib.Core.Bool.{Bool, true, false}
 use lib.ListN.{length, getD}
 use Rattle.base_laws.specs.Base.{pick, both, part}
 use Rattle.wire_varint.specs.Varint.{varintAt}
-use Rattle.wire_value.specs.Field.{numberOf, partOf, payloadAt}
+use Rattle.wire_value.specs.Field.{numberPayload, partOf, payloadAt}
 use Rattle.wire_varint.specs.Tag.{tagOf}
 use Rattle.wire_varint.specs.declared.Varint.the-variants.{Value}
 use Rattle.wire_varint.specs.declared.tag.Tag.{Tag}
@@ -39,13 +39,13 @@ use Rattle.session_fast_accept.proofs.KeyLaws.{each-key}
 
 -- how far a value reaches
 module _ (s : List ℕ) (x : ℕ) (within : x ≤ length s) where
-  pub part-lies : {a e : ℕ} → partOf s x (varintAt s x) ≡ payload.Part a e → (x ≤ a) × (a ≤ e) × (e ≤ length s)
+  pub part-in-bounds : {a e : ℕ} → partOf s x (varintAt s x) ≡ payload.Part a e → (x ≤ a) × (a ≤ e) × (e ≤ length s)
   unfolding payloadAt
-  part-lies h = subst (PayloadRead s x) h (payload-at s x within x 2 within)
+  part-in-bounds h = subst (PayloadRead s x) h (payload-at s x within x 2 within)
 
-  pub number-lies : {v n : ℕ} → numberOf x (varintAt s x) ≡ payload.Number v n → (x ≤ n) × (n ≤ length s)
+  pub number-in-bounds : {v n : ℕ} → numberPayload x (varintAt s x) ≡ payload.Number v n → (x ≤ n) × (n ≤ length s)
   unfolding payloadAt
-  number-lies h = subst (PayloadRead s x) h (payload-at s x within x 0 within)
+  number-in-bounds h = subst (PayloadRead s x) h (payload-at s x within x 0 within)
 
 module _ (s : List ℕ) (at : ℕ) (i : at < length s) (t f w : ℕ) (e : getD s at 0 ≡ t) (l : t < 128) (is : (x : ℕ) → tagOf (Value t x) ≡ tag.Field f w x) where
   -- the fields are the one read, and those that follow it
@@ -57,7 +57,7 @@ module _ (s : List ℕ) (at : ℕ) (i : at < length s) (t f w : ℕ) (e : getD s
   unfolding payloadAt onField fieldOf
   part-item two {a} {b} h = ap (map (itemOf s)) (read (payload.Part a b) (rw two h))
 
-  pub number-item : w ≡ 0 → {v n : ℕ} → numberOf (at + 1) (varintAt s (at + 1)) ≡ payload.Number v n → itemsAt s at ≡ item.number f v ∷ itemsAt s n
+  pub number-item : w ≡ 0 → {v n : ℕ} → numberPayload (at + 1) (varintAt s (at + 1)) ≡ payload.Number v n → itemsAt s at ≡ item.number f v ∷ itemsAt s n
   unfolding payloadAt onField fieldOf
   number-item none {v} {n} h = ap (map (itemOf s)) (read (payload.Number v n) (rw none h))
 

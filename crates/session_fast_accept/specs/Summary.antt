@@ -1,4 +1,4 @@
--- What one pass over an accept in the form that clients send tells. It is said by properties: the pass is a short way to an answer that
+-- What one pass over an accept in the form that clients send shows. It is said by properties: the pass is a fast path to an answer that
 -- the general one, by `bodyFits` and `entriesRefusal`, would give too. Then what is known on the way, an entry after the other.
 -- These are inner definitions: they follow the code, and no sentence of document 01. An auditor can skip them, since the contract of
 -- `on_accept` (crates/session_events/src/lib.rt) is the general `onMember` (crates/session/specs/Step.antt). What proves them against
@@ -73,6 +73,6 @@ isString (strval d) = true
 isString (strlistval l) = false
 isString (numlistval l) = false
 
--- what the key d tells by itself of each entry whose value passes the test
+-- what the key d shows by itself of each entry whose value passes the test
 unfoldable pub KeySeen : (Value → Bool) → Bytes → Keys → Seen → Type 0
 KeySeen test d keys r = (v : Value) → test v ≡ true → EntrySeen (record { key = d; value = v }) keys r

@@ -1,5 +1,5 @@
 // An accept in the form in which clients send it, looked at in one pass: each tag is one byte, each entry a key and one value, each
-// required entry a string. This is a short way. An accept in another form, one that is to be refused too, takes the general one.
+// required entry a string. This is a fast path. An accept in another form, one that is to be refused too, takes the general one.
 use base_laws::wide;
 use session_entries::same;
 use wire_check::entry::Plain;
@@ -7,6 +7,7 @@ use wire_check::entry::plain_entry;
 use wire_fields::Found;
 use wire_fields::part_found;
 use wire_message::time_spec_in;
+use wire_range::limits::NANOS_LIMIT;
 use wire_value::Payload;
 use wire_value::number_at;
 ghost use mathlib.Core.Path.{_≡_};
@@ -26,13 +27,13 @@ pub struct Keys {
     pub submituser: bool,
 }
 
-// These keys past one more entry, which is in range and a string where it has one of them; nothing is told of another.
+// These keys past one more entry, which is in range and a string where it has one of them; nothing is said of another.
 pub enum Seen {
     Fine(Keys),
     Other,
 }
 
-// The number of a required key, 0 to 3; 4 for another. The length goes first: it tells nearly all other keys apart.
+// The number of a required key, 0 to 3; 4 for another. The length goes first: it rules out nearly all other keys.
 fn key_number(a: &[u8]) -> u8
     ensures { λ r. ⌜ r ≡ keyNumber (now (a .entry)) ⌝ }
 {
@@ -112,7 +113,7 @@ fn all_met(keys: Keys) -> bool
     false
 }
 
-// What an entry's key, which ends at `key`, tells where the value is a string.
+// What an entry's key, which ends at `key`, shows where the value is a string.
 fn string_seen(keys: Keys, s: &[u8], key: usize) -> Seen
     requires { ⌜ key ≤ length (now s) ⌝ }
     ensures { λ r. ⌜ KeySeen isString (part (now (s .entry)) 2 key) keys r ⌝ }
@@ -123,7 +124,7 @@ fn string_seen(keys: Keys, s: &[u8], key: usize) -> Seen
     Seen::Other
 }
 
-// What it tells where the value is of any type: an entry with a required key is left to the general way.
+// What it shows where the value is of any type: an entry with a required key is left to the general way.
 fn other_seen(keys: Keys, s: &[u8], key: usize) -> Seen
     requires { ⌜ key ≤ length (now s) ⌝ }
     ensures { λ r. ⌜ KeySeen isSet (part (now (s .entry)) 2 key) keys r ⌝ }
@@ -137,7 +138,7 @@ fn other_seen(keys: Keys, s: &[u8], key: usize) -> Seen
     Seen::Other
 }
 
-// What an entry tells after those that had the keys.
+// What an entry adds to the keys of those before it.
 fn entry_seen(keys: Keys, s: &[u8]) -> Seen
     ensures { λ r. ⌜ EntrySeen (m.entry (items (now (s .entry)))) keys r ⌝ }
 {
@@ -154,10 +155,10 @@ fn entry_seen(keys: Keys, s: &[u8]) -> Seen
 fn date_seen(s: &[u8]) -> bool
     ensures { λ r. ⌜ r ≡ dateFits (m.timeSpec (items (now (s .entry)))) ⌝ }
 {
-    time_spec_in(s).nanos % 4294967296 <= 999999999
+    time_spec_in(s).nanos % 4294967296 <= NANOS_LIMIT
 }
 
-// What one pass over an accept in the form that clients send tells; nothing is told of another form.
+// What one pass over an accept in the form that clients send shows; nothing is said of another form.
 pub enum Summary {
     Sound { expect: bool },
     Other,

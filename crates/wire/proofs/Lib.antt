@@ -1,5 +1,5 @@
 pub mod Members
 pub mod Examples
-pub mod Lies
+pub mod Bounds
 pub mod Promises
 pub mod Sizes

@@ -18,13 +18,13 @@ use Rattle.wire_check_field.specs.declared.Checked.the-variants as checked
 use Rattle.wire_fields.specs.declared.Last.{Last}
 use Rattle.wire_fields.specs.declared.Last.the-variants as last
 use Rattle.wire_schema.proofs.Rows.{kinds}
-use Rattle.wire_fields.proofs.Follow.{LastLies, last-in-lies, span-lies}
+use Rattle.wire_fields.proofs.Follow.{LastInBounds, last-in-in-bounds, span-in-bounds}
 use Rattle.wire_fields.proofs.Items.{contentOf, last-means, bytes-means}
 use Rattle.wire_walk_io.specs.Places.{timeIn, ioRead, ioBufferOf}
 use Rattle.wire_walk_client.specs.Client.{memberRead, clientFrom, clientRead, clientOf}
 use Rattle.wire_walk_io.specs.declared.io.IoRead.the-variants as ioread
-use Rattle.wire_walk_client.specs.declared.ClientRead.{ClientRead}
-use Rattle.wire_walk_client.specs.declared.ClientRead.the-variants as client
+use Rattle.wire_types.specs.declared.ClientRead.{ClientRead}
+use Rattle.wire_types.specs.declared.ClientRead.the-variants as client
 use Rattle.wire_message.specs.Message.{clientMember, ioBuf, timed}
 use Rattle.wire_message.specs.Places.{timeValue}
 use Rattle.wire_message.proofs.Meaning.{time-means}
@@ -58,7 +58,7 @@ io-value : (s : List ℕ) (a e : ℕ) → a ≤ e → e ≤ length s
 unfolding timed
 io-value s a e h l =
     let p : List ℕ = part s a e in
-    let i = span-lies p 2 in
+    let i = span-in-bounds p 2 in
     let w : endFrom (lastIn 2 2 p) ≤ e - a = omega (arith, length-part s a e h l, i .1) in
     rw (time-means 1 p, ← part-part s a e (startFrom (lastIn 2 2 p)) (endFrom (lastIn 2 2 p)) w, bytes-means p 2)
 
@@ -74,7 +74,7 @@ module _ (s : List ℕ) (f a e : ℕ) (h : a ≤ e) (l : e ≤ length s) where
   told true k = io-told (checkOf 6 (part s a e)) (eqb-true (kindOf 0 f) 22 k)
   told false k = refl
 
-from : (s : List ℕ) (x : Last) → LastLies s x → clientValue s (clientFrom s x) ≡ member (λ n d. clientMember n (items d)) (contentOf s x)
+from : (s : List ℕ) (x : Last) → LastInBounds s x → clientValue s (clientFrom s x) ≡ member (λ n d. clientMember n (items d)) (contentOf s x)
 unfolding clientFrom clientValue member
 from s last.Nothing h = refl
 from s (last.Number f v) h = refl
@@ -89,4 +89,4 @@ pub client-means : (s : List ℕ) → clientValue s (clientOf s) ≡ clientMessa
 unfolding clientMessage
 client-means s =
     checked-first s (checkOf 0 s) (clientFrom s (lastIn 1 13 s))
-    ∙ ap (after (checkOf 0 s)) (from s (lastIn 1 13 s) (last-in-lies s 1 13) ∙ ap (member (λ n d. clientMember n (items d))) (last-means s 1 13))
+    ∙ ap (after (checkOf 0 s)) (from s (lastIn 1 13 s) (last-in-in-bounds s 1 13) ∙ ap (member (λ n d. clientMember n (items d))) (last-means s 1 13))

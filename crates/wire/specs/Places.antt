@@ -3,15 +3,15 @@ use Prim.Native.Nat.{ℕ}
 use mathlib.Core.List.{List}
 use Rattle.base_laws.specs.Base.{part}
 use Rattle.wire_fields.specs.Items.{items}
-use Rattle.wire_walk_client.specs.declared.ClientRead.{ClientRead}
-use Rattle.wire_walk_client.specs.declared.ClientRead.the-variants as client
+use Rattle.wire_types.specs.declared.ClientRead.{ClientRead}
+use Rattle.wire_types.specs.declared.ClientRead.the-variants as client
 use Rattle.wire_message.specs.Message.{Client, Server, clientMember, serverMember, ioBuf}
 use Rattle.wire_message.specs.Places.{timeValue}
 use Rattle.wire.specs.Read.{Reading, value, refused}
 use Rattle.wire.specs.declared.ServerRead.{ServerRead}
 use Rattle.wire.specs.declared.ServerRead.the-variants as server
 
--- an I/O buffer by its delay and where its data lies; any other member by its bytes
+-- an I/O buffer by its delay and where its data is; any other member by its bytes
 unfoldable pub clientValue : List ℕ → ClientRead → Reading Client
 clientValue s client.NoMember = refused 6
 clientValue s (client.Io f x y a e) =

@@ -1,12 +1,14 @@
 // Reading a message: the refusals in document 01's order, and the members of ClientMessage and ServerMessage. This crate, with
-// `message` for the members' values and `range` for their ranges, is what a session builds on.
+// `wire_message` for the members' values and `wire_range` for their ranges, is what a session builds on.
 use wire_check::check;
 use wire_check_field::Checked;
 use wire_fast_client::client;
 use wire_fields::Last;
 use wire_fields::last_in;
 use wire_range::in_range;
-use wire_walk_client::ClientRead;
+use wire_schema::CLIENT_MESSAGE;
+use wire_schema::SERVER_MESSAGE;
+use wire_types::ClientRead;
 ghost use mathlib.Core.Path.{_≡_};
 ghost use Rattle.wire_fields.specs.Items.{items, lastItem};
 ghost use Rattle.wire_walk_client.specs.Client.{clientOf};
@@ -35,10 +37,10 @@ fn is_absent(s: &[u8], lo: u64, hi: u64) -> bool
 fn no_member(message: u8, s: &[u8]) -> bool
     ensures { λ r. ⌜ r ≡ noMember message (items (now (s .entry))) ⌝ }
 {
-    if message == 0 {
+    if message == CLIENT_MESSAGE {
         return is_absent(s, 1, 13);
     }
-    if message == 14 {
+    if message == SERVER_MESSAGE {
         return is_absent(s, 1, 5);
     }
     false
@@ -102,7 +104,7 @@ pub enum ServerRead {
 pub fn server_message(s: &[u8]) -> ServerRead
     ensures { λ r. ⌜ serverValue (now (s .entry)) r ≡ serverMessage (now (s .entry)) ⌝ }
 {
-    match check(14, s) {
+    match check(SERVER_MESSAGE, s) {
         Checked::Refused { refusal, place } => ServerRead::Refused { refusal, place },
         Checked::Fine => match last_in(s, 1, 5) {
             Last::Nothing => ServerRead::NoMember,

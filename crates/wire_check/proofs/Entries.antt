@@ -12,7 +12,7 @@ use Rattle.base_laws.specs.Base.{pick, both, part}
 use Rattle.base_laws.proofs.Order.{picked, both-true}
 use Rattle.wire_varint.specs.Varint.{varintAt}
 use Rattle.wire_schema.specs.Schema.{kindOf, takes, schema, InfoMessage, StringList}
-use Rattle.wire_value.specs.Field.{numberOf, partOf, payloadAt}
+use Rattle.wire_value.specs.Field.{numberPayload, partOf, payloadAt}
 use Rattle.wire_varint.specs.Tag.{tagFits, tagOf, tagAt}
 use Rattle.wire_check_field.specs.Check.{stepOf, stepAt, checkAt, checkOf}
 use Rattle.wire_fields.specs.Fields.{fieldOf, fieldAt, onField, fieldsAt}
@@ -116,7 +116,7 @@ module _ (s : List ℕ) (k : ℕ) (h : Keyed s k) where
     whole checked.Fine (checks-on leads (h .goes-on) ∙ at-end InfoMessage s (length s) (omega arith)),
   )
 
-  pub numbered : getD s k 0 ≡ 16 → (v n : ℕ) → numberOf (k + 1) (varintAt s (k + 1)) ≡ payload.Number v n → n ≡ length s → Formed s (plain.Number k v)
+  pub numbered : getD s k 0 ≡ 16 → (v n : ℕ) → numberPayload (k + 1) (varintAt s (k + 1)) ≡ payload.Number v n → n ≡ length s → Formed s (plain.Number k v)
   unfolding Formed tagOf tagFits takes kindOf schema payloadAt stepOf fieldOf
   numbered t v n e end =
       let leads : Leads InfoMessage s k n (field.Number 2 v n) = field-leads InfoMessage s k 2 0 (k + 1) (omega arith) (tagged s k 16 2 0 (h .goes-on) (lit≤ tt) t refl) refl n (payload.Number v n) e refl in

@@ -1,4 +1,4 @@
--- The form in which clients send an entry (an InfoMessage): the key, then one value, and nothing else. It has a short way.
+-- The form in which clients send an entry (an InfoMessage): the key, then one value, and nothing else. It has a fast path.
 -- These are inner definitions: they follow the code, and no sentence of document 01. An auditor can skip them, since the contract of
 -- `check` (crates/wire_check/src/lib.rt) is the general `checkOf` (crates/wire_check_field/specs/Check.antt). What proves them against it:
 -- crates/wire_check/proofs/Entries.antt: `key-there`, `numbered`, `text`, `texts`, `numbers`.

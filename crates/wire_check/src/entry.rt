@@ -1,5 +1,5 @@
 // Entries (InfoMessage) in the form in which clients send them: the key with a length of one byte, then one value that ends the entry. This is a
-// short way. What is in another form, damaged entries too, takes the general one.
+// fast path. What is in another form, damaged entries too, takes the general one.
 use base_laws::wide;
 use wire_fields::Found;
 use wire_fields::part_found;

@@ -8,7 +8,7 @@ use Rattle.base_laws.specs.Base.{part}
 use Rattle.base_laws.proofs.Order.{picked}
 use Rattle.wire_varint.specs.Varint.{varintAt}
 use Rattle.wire_schema.specs.Schema.{kindOf, takes}
-use Rattle.wire_value.specs.Field.{fixedAt, numberOf, partOf, payloadAt}
+use Rattle.wire_value.specs.Field.{fixedAt, numberPayload, partOf, payloadAt}
 use Rattle.wire_varint.specs.Tag.{tagFits, tagOf, tagAt}
 use Rattle.wire_check_field.specs.Check.{stepOf, stepFrom, stepAt, before, onStep, checkFrom, checkAt, checkOf}
 use Rattle.wire_varint.specs.declared.Varint.{Varint}
@@ -51,8 +51,8 @@ module _ (s : List ℕ) where
   tag-told PastEnd = (omega arith, omega arith)
   tag-told TooLong = (omega arith, omega arith)
 
-  number-told : (x : ℕ) (r : Varint) → Told (numberOf x r)
-  unfolding numberOf
+  number-told : (x : ℕ) (r : Varint) → Told (numberPayload x r)
+  unfolding numberPayload
   number-told x (Value v n) = tt
   number-told x PastEnd = (omega arith, omega arith)
   number-told x TooLong = (omega arith, omega arith)
@@ -90,7 +90,7 @@ module _ (s : List ℕ) where
   step-told : (m at : ℕ) → StepTold (stepAt m s at)
   unfolding stepAt tagAt
   step-told m at =
-      picked StepTold (eqb m 16) _ _ (λ _. step-of-told 0 (numberOf at (varintAt s at)) (number-told at (varintAt s at)))
+      picked StepTold (eqb m 16) _ _ (λ _. step-of-told 0 (numberPayload at (varintAt s at)) (number-told at (varintAt s at)))
       (λ _. step-from-told m at (tagAt s at) (tag-told (varintAt s at)))
 
 pub before-told : (a : ℕ) (x y : Checked) → CheckTold x → CheckTold y → CheckTold (before a x y)

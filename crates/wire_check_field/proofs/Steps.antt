@@ -6,7 +6,7 @@ use lib.ListN.{length}
 use lib.Dec.{leb, eqb}
 use Rattle.wire_varint.specs.Varint.{varintAt}
 use Rattle.wire_schema.specs.Schema.{kindOf, takes}
-use Rattle.wire_value.specs.Field.{numberOf}
+use Rattle.wire_value.specs.Field.{numberPayload}
 use Rattle.wire_varint.specs.Tag.{tagAt}
 use Rattle.wire_varint.specs.declared.Varint.{Varint}
 use Rattle.wire_varint.specs.declared.Varint.the-variants.{Value, PastEnd, TooLong}
@@ -40,8 +40,8 @@ module _ (s : List ℕ) where
   step-from m at l (tag.Field n w x) h =
       picked (StepRead at) (takes (kindOf m n) w) _ _ (λ _. step-of at x (kindOf m n) (h .0) _ (payload-at s x (h .1) at w l)) (λ _. l)
 
-  number-step : (at : ℕ) → at ≤ length s → (r : Varint) → Read s at r → StepRead at (stepOf 0 (numberOf at r))
-  unfolding stepOf numberOf
+  number-step : (at : ℕ) → at ≤ length s → (r : Varint) → Read s at r → StepRead at (stepOf 0 (numberPayload at r))
+  unfolding stepOf numberPayload
   number-step at l (Value v n) h = h
   number-step at l PastEnd h = l
   number-step at l TooLong h = l

@@ -10,7 +10,7 @@ use borrow.Author.Tests.{lt-leb, le-leb, ne-eqb, eqb-true, eqb-false, leb-true, 
 use Rattle.base_laws.specs.Base.{pick, both}
 use Rattle.wire_varint.specs.Varint.{varintAt}
 use Rattle.wire_schema.specs.Schema.{kindOf, takes}
-use Rattle.wire_value.specs.Field.{numberOf, partOf, payloadAt}
+use Rattle.wire_value.specs.Field.{numberPayload, partOf, payloadAt}
 use Rattle.wire_varint.specs.Tag.{tagFits, tagOf, tagAt}
 use Rattle.wire_check_field.specs.Check.{stepOf, stepFrom, stepAt}
 use Rattle.base_laws.specs.Base.{part}
@@ -130,15 +130,15 @@ module _ (m : ℕ) (s : List ℕ) (at t x : ℕ) (real : m ≡ 16 → ⊥) (tagg
   -- a number where the schema has one
   module _ (f : ℕ) (is : tagOf (Value t x) ≡ tag.Field f 0 x) (fits : takes (kindOf m f) 0 ≡ true) where
     pub number-leads : (v n : ℕ) → varintAt s x ≡ Value v n → Leads m s at n (field.Number f v n)
-    unfolding stepFrom stepOf payloadAt numberOf fieldFrom fieldOf onField
+    unfolding stepFrom stepOf payloadAt numberPayload fieldFrom fieldOf onField
     number-leads v n e = record { steps = stepped ∙ rw (is, fits, e); reads = entered ∙ rw (is, e); goes = λ go. refl }
 
     pub number-past : varintAt s x ≡ PastEnd → stepAt m s at ≡ step.Refused 2 x
-    unfolding stepFrom stepOf payloadAt numberOf
+    unfolding stepFrom stepOf payloadAt numberPayload
     number-past e = stepped ∙ rw (is, fits, e)
 
     pub number-long : varintAt s x ≡ TooLong → stepAt m s at ≡ step.Refused 2 x
-    unfolding stepFrom stepOf payloadAt numberOf
+    unfolding stepFrom stepOf payloadAt numberPayload
     number-long e = stepped ∙ rw (is, fits, e)
 
   -- any field that is not entered
@@ -209,8 +209,8 @@ module _ (m : ℕ) (s : List ℕ) (at t x : ℕ) (real : m ≡ 16 → ⊥) (tagg
 
 -- past an embedded message that is fine
 module _ (m : ℕ) (s : List ℕ) (at i a b : ℕ) (h : at < length s) (e : stepAt m s at ≡ step.Inside i a b) where
-  pub lies : (at < a) × (a ≤ b) × (b ≤ length s)
-  lies = subst (StepRead s at) e (step-at s m at (omega arith))
+  pub in-bounds : (at < a) × (a ≤ b) × (b ≤ length s)
+  in-bounds = subst (StepRead s at) e (step-at s m at (omega arith))
 
   enters : checkAt m s at ≡ before a (checkOf i (part s a b)) (checkAt m s b)
   unfolding onStep
@@ -219,8 +219,8 @@ module _ (m : ℕ) (s : List ℕ) (at i a b : ℕ) (h : at < length s) (e : step
   pub inside-on : (f : ℕ) → fieldAt s at ≡ field.Part f a b → checkOf i (part s a b) ≡ checked.Fine → On m s at b (field.Part f a b)
   unfolding before onField lastOf
   inside-on f r c = record {
-    past = omega (arith, lies .0, lies .1);
-    within = lies .2;
+    past = omega (arith, in-bounds .0, in-bounds .1);
+    within = in-bounds .2;
     checks = enters ∙ rw c;
     keeps = λ lo hi l. ap (λ (es : List Field). lastOf lo hi l es) (follow s at h ∙ ap (λ (x : Field). onField (fieldsAt s) x) r);
   }

@@ -6,7 +6,7 @@ use lib.ListN.{length}
 use lib.Dec.{ltb, leb, eqb}
 use Rattle.base_laws.specs.Base.{pick, part}
 use Rattle.wire_varint.specs.Varint.{varintAt}
-use Rattle.wire_value.specs.Field.{numberOf, payloadAt}
+use Rattle.wire_value.specs.Field.{numberPayload, payloadAt}
 use Rattle.wire_varint.specs.Tag.{tagAt}
 use Rattle.wire_schema.specs.Schema.{kindOf, takes}
 use Rattle.wire_varint.specs.declared.tag.Tag.{Tag}
@@ -35,7 +35,7 @@ stepFrom m s at (tag.Field n w x) =
 
 -- packed numbers, message 16, have a varint where other messages have a field
 unfoldable pub stepAt : ℕ → List ℕ → ℕ → Step
-stepAt m s at = pick (eqb m 16) (stepOf 0 (numberOf at (varintAt s at))) (stepFrom m s at (tagAt s at))
+stepAt m s at = pick (eqb m 16) (stepOf 0 (numberPayload at (varintAt s at))) (stepFrom m s at (tagAt s at))
 
 -- ---- all of them
 

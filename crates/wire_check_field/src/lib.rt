@@ -1,4 +1,4 @@
-// The check of one field of any message, by the one schema, and what the check of a whole message answers (`message_check`).
+// The check of one field of any message, by the one schema, and what the check of a whole message returns (`wire_check`).
 use wire_schema::kind_of;
 use wire_schema::takes;
 use wire_value::Payload;
@@ -11,6 +11,9 @@ ghost use mathlib.Core.Path.{_≡_};
 ghost use Rattle.wire_varint.specs.Tag.{tagOf};
 ghost use Rattle.wire_check_field.specs.Check.{stepOf, stepFrom, stepAt};
 ghost use Rattle.wire_varint.specs.declared.Varint.the-variants.{Value};
+
+// The number of packed numbers, where the others are messages': a list of them has the kind of an embedded message with this number.
+const PACKED_NUMBERS: u8 = 16;
 
 // What a field means to the check of its message.
 pub enum Step {
@@ -73,7 +76,7 @@ pub fn rest_at(message: u8, s: &[u8], at: usize, value: u64, from: usize) -> Ste
 pub fn step_at(message: u8, s: &[u8], at: usize) -> Step
     ensures { λ r. ⌜ r ≡ stepAt message (now (s .entry)) at ⌝ }
 {
-    if message == 16 {
+    if message == PACKED_NUMBERS {
         return step_of(0, number_at(s, at));
     }
     match tag_at(s, at) {

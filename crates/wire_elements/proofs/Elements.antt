@@ -83,7 +83,7 @@ pub found-part : (f : ℕ) (s : List ℕ) (at : ℕ) {a e : ℕ} → firstOf f (
 found-part f s at {a} {e} h = search-from f s a e (suc (length s - at)) at (omega arith) h .0
 
 -- its bytes lie past the place and within the message
-pub found-lies : (f : ℕ) (s : List ℕ) (at : ℕ) {a e : ℕ} → firstOf f (fieldsAt s at) ≡ found.Part a e
+pub found-in-bounds : (f : ℕ) (s : List ℕ) (at : ℕ) {a e : ℕ} → firstOf f (fieldsAt s at) ≡ found.Part a e
     → (at < a) × (a ≤ e) × (e ≤ length s)
-found-lies f s at {a} {e} h = let r = search-from f s a e (suc (length s - at)) at (omega arith) h in
+found-in-bounds f s at {a} {e} h = let r = search-from f s a e (suc (length s - at)) at (omega arith) h in
     (r .1, r .2, r .3)

@@ -1,4 +1,4 @@
-// The elements of a message's lists, one after the other. The bytes of a field come by encoding's `next_part`, whose answers
+// The elements of a message's lists, one after the other. The bytes of a field come by `next_part` of `wire_fields`, whose answers
 // proofs/Elements ties to the list of all of them; the numbers of a NumberList come by `next_number`.
 use wire_fields::Field;
 use wire_fields::field_at;

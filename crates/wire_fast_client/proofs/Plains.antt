@@ -1,4 +1,4 @@
--- The short ways: each says what the walk over the same fields says.
+-- The fast paths: each says what the walk over the same fields says.
 use Prim.Native.Nat.{ℕ, _+_, _/_, _%_, _≤_, _<_}
 use native.Mathlib.Omega.{arith}
 use mathlib.Core.Path.{_≡_, refl, sym, subst, _∙_}
@@ -29,7 +29,7 @@ use Rattle.wire_fast_client.specs.declared.Tail.the-variants as tail
 use Rattle.wire_fast_client.specs.declared.PlainIo.{PlainIo}
 use Rattle.wire_fast_client.specs.declared.PlainIo.the-variants as io
 use Rattle.wire_fast_client.specs.declared.PlainClient.the-variants as client
-use Rattle.wire_walk_client.specs.declared.ClientRead.the-variants as clientread
+use Rattle.wire_types.specs.declared.ClientRead.the-variants as clientread
 use Rattle.wire_walk_io.proofs.Times as times
 use Rattle.wire_walk_io.proofs.Ios as ios
 use Rattle.wire_walk_client.proofs.Clients as clients
@@ -92,8 +92,8 @@ module _ (s : List ℕ) (k : HasTag s 0 10) (a b : ℕ) (p : partOf s 1 (varintA
   at-delay : ios.Delay-at a b s 0 0 0 0 0 10 1
   at-delay = record { tag = record { walked = ios.start s; more = k .within; tagged = k .tagged }; ten = refl; holds = p }
 
-  pub delay-lies : (a ≤ b) × (b ≤ length s)
-  delay-lies = ios.delay-lies at-delay
+  pub delay-in-bounds : (a ≤ b) × (b ≤ length s)
+  delay-in-bounds = ios.delay-in-bounds at-delay
 
   pub delay-data : (t : PlainTime) → TimeSaid (part s a b) t → (x y : ℕ) → t ≡ time.Fine x y → (r : Tail) → Tailed s b r → IoSaid s (withData x y r)
   unfolding TimeSaid
@@ -142,8 +142,8 @@ module _ (s : List ℕ) (t : ℕ) (h : IoTag t) (k : HasTag s 0 t) (a b : ℕ) (
     io = io-kind t h;
   }
 
-  pub member-lies : (a ≤ b) × (b ≤ length s)
-  member-lies = clients.member-lies (clients.io-member at-io)
+  pub member-in-bounds : (a ≤ b) × (b ≤ length s)
+  member-in-bounds = clients.member-in-bounds (clients.io-member at-io)
 
   pub member-io : b ≡ length s → (r : PlainIo) → IoSaid (part s a b) r → (x y c d : ℕ) → r ≡ io.Fine x y c d
       → ClientSaid s (client.Io (t / 8) x y (a + c) (a + d))
@@ -153,4 +153,4 @@ module _ (s : List ℕ) (t : ℕ) (h : IoTag t) (k : HasTag s 0 t) (a b : ℕ) (
   -- the data's places are the message's
   pub member-within : (r : PlainIo) → IoSaid (part s a b) r → (x y c d : ℕ) → r ≡ io.Fine x y c d → (a + c ≤ length s) × (a + d ≤ length s)
   unfolding IoSaid
-  member-within r j x y c d q = clients.io-lies at-io (sym (subst (IoSaid (part s a b)) q j))
+  member-within r j x y c d q = clients.io-in-bounds at-io (sym (subst (IoSaid (part s a b)) q j))

@@ -1,4 +1,4 @@
--- Short ways: what is said of a TimeSpec, an IoBuffer and a ClientMessage in the form in which clients send them. It is what the
+-- Fast paths: what is said of a TimeSpec, an IoBuffer and a ClientMessage in the form in which clients send them. It is what the
 -- general definitions say; nothing is said of another form.
 -- These are inner definitions: they follow the code, and no sentence of document 01. An auditor can skip them, since the contract of
 -- `client` (crates/wire_fast_client/src/lib.rt) is the general `clientOf` (crates/wire_walk_client/specs/Client.antt). What proves them against it:
@@ -18,7 +18,7 @@ use Rattle.wire_walk_io.specs.Places.{timeSpecOf, ioBufferOf}
 use Rattle.wire_walk_client.specs.Client.{clientOf}
 use Rattle.wire_walk_io.specs.declared.time.TimeRead.the-variants as timeread
 use Rattle.wire_walk_io.specs.declared.io.IoRead.the-variants as ioread
-use Rattle.wire_walk_client.specs.declared.ClientRead.the-variants as clientread
+use Rattle.wire_types.specs.declared.ClientRead.the-variants as clientread
 use Rattle.wire_fast_client.specs.declared.Ending.{Ending}
 use Rattle.wire_fast_client.specs.declared.Ending.the-variants as ending
 use Rattle.wire_fast_client.specs.declared.PlainTime.{PlainTime}

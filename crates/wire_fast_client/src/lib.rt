@@ -1,11 +1,11 @@
-// A ClientMessage. I/O buffers have a short way, for the form in which clients send them: one member that is the whole message, a delay,
+// A ClientMessage. I/O buffers have a fast path, for the form in which clients send them: one member that is the whole message, a delay,
 // then the data to the end. That is nearly every message of a session. What is in another form, damaged messages too, takes the walk.
 use base_laws::wide;
 use wire_fields::Found;
 use wire_fields::part_found;
+use wire_types::ClientRead;
 use wire_varint::Varint;
 use wire_varint::varint_at;
-use wire_walk_client::ClientRead;
 use wire_walk_client::client_walk;
 ghost use mathlib.Core.Path.{_≡_};
 ghost use lib.ListN.{length};
@@ -183,7 +183,7 @@ fn with_data(seconds: u64, nanos: u64, tail: Tail) -> PlainIo
     }
 }
 
-// An IoBuffer whose delay lies from one place to another.
+// An IoBuffer whose delay goes from one place to another.
 fn from_delay(s: &[u8], start: usize, end: usize) -> PlainIo
     requires { ⌜ HasTag (now s) 0 10 ⌝ }
     requires { ⌜ partOf (now s) 1 (varintAt (now s) 1) ≡ Part start end ⌝ }
@@ -237,7 +237,7 @@ fn is_io(tag: u64) -> bool
     tag % 8 == 2
 }
 
-// A message whose one member is an I/O buffer that lies from one place to another, the end.
+// A message whose one member is an I/O buffer that goes from one place to another, the end.
 fn from_member(s: &[u8], tag: u64, start: usize, end: usize) -> PlainClient
     requires { ⌜ (IoTag tag) × (HasTag (now s) 0 tag) ⌝ }
     requires { ⌜ partOf (now s) 1 (varintAt (now s) 1) ≡ Part start end ⌝ }

@@ -85,59 +85,59 @@ unfolding fieldsAt
 none s at h = done (suc (length s - at)) s at h
 
 -- every field lies within the list
-abbrev pub Lies : List ℕ → Field → Type 0
-Lies s (field.Number f v n) = Unit
-Lies s (field.Fixed f n) = Unit
-Lies s (field.Part f a e) = (a ≤ e) × (e ≤ length s)
-Lies s field.Broken = Unit
+abbrev pub InBounds : List ℕ → Field → Type 0
+InBounds s (field.Number f v n) = Unit
+InBounds s (field.Fixed f n) = Unit
+InBounds s (field.Part f a e) = (a ≤ e) × (e ≤ length s)
+InBounds s field.Broken = Unit
 
-abbrev pub AllLie : List ℕ → List Field → Type 0
-AllLie s [] = Unit
-AllLie s (e ∷ es) = Lies s e × AllLie s es
+abbrev pub AllInBounds : List ℕ → List Field → Type 0
+AllInBounds s [] = Unit
+AllInBounds s (e ∷ es) = InBounds s e × AllInBounds s es
 
-lie : (s : List ℕ) (at : ℕ) (go : ℕ → List Field) → ((n : ℕ) → AllLie s (go n)) → (e : Field) → FieldRead s at e → AllLie s (onField go e)
+field-in-bounds : (s : List ℕ) (at : ℕ) (go : ℕ → List Field) → ((n : ℕ) → AllInBounds s (go n)) → (e : Field) → FieldRead s at e → AllInBounds s (onField go e)
 unfolding onField
-lie s at go h (field.Number k v n) r = (tt, h n)
-lie s at go h (field.Fixed k n) r = (tt, h n)
-lie s at go h (field.Part k a e) r = ((r .1, r .2), h e)
-lie s at go h field.Broken r = tt
+field-in-bounds s at go h (field.Number k v n) r = (tt, h n)
+field-in-bounds s at go h (field.Fixed k n) r = (tt, h n)
+field-in-bounds s at go h (field.Part k a e) r = ((r .1, r .2), h e)
+field-in-bounds s at go h field.Broken r = tt
 
-lies : (k : ℕ) (s : List ℕ) (at : ℕ) → AllLie s (fieldsFrom k s at)
+in-bounds : (k : ℕ) (s : List ℕ) (at : ℕ) → AllInBounds s (fieldsFrom k s at)
 unfolding fieldsFrom
-lies zero s at = tt
-lies (suc k) s at = picked (AllLie s) (ltb at (length s)) _ _ (λ _. lie s at (fieldsFrom k s) (lies k s) (fieldAt s at) (field-read s at)) (λ _. tt)
+in-bounds zero s at = tt
+in-bounds (suc k) s at = picked (AllInBounds s) (ltb at (length s)) _ _ (λ _. field-in-bounds s at (fieldsFrom k s) (in-bounds k s) (fieldAt s at) (field-read s at)) (λ _. tt)
 
-abbrev pub LastLies : List ℕ → Last → Type 0
-LastLies s last.Nothing = Unit
-LastLies s (last.Number f v) = Unit
-LastLies s (last.Part f a e) = (a ≤ e) × (e ≤ length s)
+abbrev pub LastInBounds : List ℕ → Last → Type 0
+LastInBounds s last.Nothing = Unit
+LastInBounds s (last.Number f v) = Unit
+LastInBounds s (last.Part f a e) = (a ≤ e) × (e ≤ length s)
 
-later-lies : (s : List ℕ) (lo hi : ℕ) (l : Last) (e : Field) → LastLies s l → Lies s e → LastLies s (later lo hi l e)
+later-in-bounds : (s : List ℕ) (lo hi : ℕ) (l : Last) (e : Field) → LastInBounds s l → InBounds s e → LastInBounds s (later lo hi l e)
 unfolding later
-later-lies s lo hi l (field.Number f v n) h i = picked (LastLies s) (among lo hi f) _ _ (λ _. tt) (λ _. h)
-later-lies s lo hi l (field.Fixed f n) h i = h
-later-lies s lo hi l (field.Part f a e) h i = picked (LastLies s) (among lo hi f) _ _ (λ _. i) (λ _. h)
-later-lies s lo hi l field.Broken h i = h
+later-in-bounds s lo hi l (field.Number f v n) h i = picked (LastInBounds s) (among lo hi f) _ _ (λ _. tt) (λ _. h)
+later-in-bounds s lo hi l (field.Fixed f n) h i = h
+later-in-bounds s lo hi l (field.Part f a e) h i = picked (LastInBounds s) (among lo hi f) _ _ (λ _. i) (λ _. h)
+later-in-bounds s lo hi l field.Broken h i = h
 
-last-lies : (s : List ℕ) (lo hi : ℕ) (l : Last) (es : List Field) → LastLies s l → AllLie s es → LastLies s (lastOf lo hi l es)
+last-in-bounds : (s : List ℕ) (lo hi : ℕ) (l : Last) (es : List Field) → LastInBounds s l → AllInBounds s es → LastInBounds s (lastOf lo hi l es)
 unfolding lastOf
-last-lies s lo hi l [] h i = h
-last-lies s lo hi l (e ∷ es) h i = last-lies s lo hi (later lo hi l e) es (later-lies s lo hi l e h (i .0)) (i .1)
+last-in-bounds s lo hi l [] h i = h
+last-in-bounds s lo hi l (e ∷ es) h i = last-in-bounds s lo hi (later lo hi l e) es (later-in-bounds s lo hi l e h (i .0)) (i .1)
 
-pub last-in-lies : (s : List ℕ) (lo hi : ℕ) → LastLies s (lastIn lo hi s)
+pub last-in-in-bounds : (s : List ℕ) (lo hi : ℕ) → LastInBounds s (lastIn lo hi s)
 unfolding fieldsAt
-last-in-lies s lo hi = last-lies s lo hi last.Nothing (fieldsOf s) tt (lies (suc (length s - 0)) s 0)
+last-in-in-bounds s lo hi = last-in-bounds s lo hi last.Nothing (fieldsOf s) tt (in-bounds (suc (length s - 0)) s 0)
 
--- a part that last_in answered, as l, lies within the message
-pub part-lies : (s : List ℕ) (lo hi : ℕ) {l : Last} {f a e : ℕ} → l ≡ lastIn lo hi s → l ≡ last.Part f a e → (a ≤ e) × (e ≤ length s)
-part-lies s lo hi h is = subst (LastLies s) (sym h ∙ is) (last-in-lies s lo hi)
+-- a part that last_in answered, as l, is in bounds
+pub part-in-bounds : (s : List ℕ) (lo hi : ℕ) {l : Last} {f a e : ℕ} → l ≡ lastIn lo hi s → l ≡ last.Part f a e → (a ≤ e) × (e ≤ length s)
+part-in-bounds s lo hi h is = subst (LastInBounds s) (sym h ∙ is) (last-in-in-bounds s lo hi)
 
-ends-lie : (s : List ℕ) (l : Last) → LastLies s l → (startFrom l ≤ endFrom l) × (endFrom l ≤ length s)
+ends-are-in-bounds : (s : List ℕ) (l : Last) → LastInBounds s l → (startFrom l ≤ endFrom l) × (endFrom l ≤ length s)
 unfolding startFrom endFrom
-ends-lie s last.Nothing h = (omega arith, omega arith)
-ends-lie s (last.Number f v) h = (omega arith, omega arith)
-ends-lie s (last.Part f a e) h = h
+ends-are-in-bounds s last.Nothing h = (omega arith, omega arith)
+ends-are-in-bounds s (last.Number f v) h = (omega arith, omega arith)
+ends-are-in-bounds s (last.Part f a e) h = h
 
 -- the bytes of a field lie within the message
-pub span-lies : (s : List ℕ) (f : ℕ) → (startFrom (lastIn f f s) ≤ endFrom (lastIn f f s)) × (endFrom (lastIn f f s) ≤ length s)
-span-lies s f = ends-lie s (lastIn f f s) (last-in-lies s f f)
+pub span-in-bounds : (s : List ℕ) (f : ℕ) → (startFrom (lastIn f f s) ≤ endFrom (lastIn f f s)) × (endFrom (lastIn f f s) ≤ length s)
+span-in-bounds s f = ends-are-in-bounds s (lastIn f f s) (last-in-in-bounds s f f)

@@ -9,7 +9,7 @@ use lib.Dec.{leb, eqb}
 use borrow.Author.Tests.{leb-true}
 use Rattle.base_laws.proofs.Order.{lt-or-le, picked}
 use Rattle.wire_varint.specs.Varint.{varintFrom, varintAt, above}
-use Rattle.wire_value.specs.Field.{fixedAt, numberOf, partOf, payloadAt}
+use Rattle.wire_value.specs.Field.{fixedAt, numberPayload, partOf, payloadAt}
 use Rattle.wire_varint.specs.Tag.{tagFits, tagOf, tagAt}
 use Rattle.wire_varint.specs.declared.Varint.{Varint}
 use Rattle.wire_varint.specs.declared.Varint.the-variants.{Value, PastEnd, TooLong}
@@ -65,8 +65,8 @@ module _ (s : List ℕ) where
   PayloadRead at (payload.Refused r p) = p ≤ length s
 
   module _ (at : ℕ) (within : at ≤ length s) where
-    number-of : (r : Varint) → Read at r → PayloadRead at (numberOf at r)
-    unfolding numberOf
+    number-of : (r : Varint) → Read at r → PayloadRead at (numberPayload at r)
+    unfolding numberPayload
     number-of (Value v n) h = (omega arith, omega arith)
     number-of PastEnd h = within
     number-of TooLong h = within

@@ -17,7 +17,7 @@ use Rattle.wire_fields.specs.declared.Field.{Field}
 use Rattle.wire_fields.specs.declared.Field.the-variants as field
 use Rattle.wire_fields.specs.declared.Last.{Last}
 use Rattle.wire_fields.specs.declared.Last.the-variants as last
-use Rattle.wire_fields.specs.declared.Span.{Span}
+use Rattle.wire_types.specs.declared.Span.{Span}
 use Rattle.wire_fields.specs.declared.Found.{Found}
 use Rattle.wire_fields.specs.declared.Found.the-variants as found
 

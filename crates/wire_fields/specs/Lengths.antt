@@ -1,6 +1,6 @@
--- A length and its bytes, as the short ways look for them.
+-- A length and its bytes, as the fast paths look for them.
 -- These are inner definitions: they follow the code, and no sentence of document 01. An auditor can skip them, since the contracts
--- above the short ways do not cite them. What proves them against the general `partOf` (crates/wire_value/specs/Field.antt):
+-- above the fast paths do not cite them. What proves them against the general `partOf` (crates/wire_value/specs/Field.antt):
 -- crates/wire_fields/proofs/Lengths.antt: `found-part`.
 use Rattle.wire_value.specs.declared.Payload.{Payload}
 use Rattle.wire_value.specs.declared.Payload.the-variants as payload

@@ -1,4 +1,5 @@
 // A message's fields, one after the other, and the last of some numbers among them.
+use wire_types::Span;
 use wire_value::Payload;
 use wire_value::part_at;
 use wire_value::payload_at;
@@ -149,12 +150,6 @@ pub fn number_in(s: &[u8], number: u64) -> u64
             end: _,
         } => 0,
     }
-}
-
-// Where a field's bytes lie in a message.
-pub struct Span {
-    pub start: usize,
-    pub end: usize,
 }
 
 // The bytes of the last field of a number; 0 to 0 where there is none.

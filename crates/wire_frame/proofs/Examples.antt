@@ -1,7 +1,7 @@
 -- The definitions at document 01's marked examples 2 and 6, and at the ends of each range.
 use mathlib.Core.Path.{_≡_, refl}
 use mathlib.Core.List.{[], _∷_}
-use Rattle.wire_frame.specs.Frame.{lengthOf, cutOf, refusalOf, stateOf, countOf}
+use Rattle.wire_frame.specs.Frame.{lengthOf, cutOf, refusalOf, frameState, countOf}
 use Rattle.wire_frame.specs.declared.Cut.the-variants.{Wait, Frame, Refused}
 
 -- example 2: `00 00 00 0A 3A 08 0A 02 08 01 12 02 68 69`
@@ -40,6 +40,6 @@ too-long : cutOf (0 ∷ 32 ∷ 0 ∷ 1 ∷ []) ≡ Refused
 unfolding cutOf lengthOf
 too-long = refl
 
-refused : (refusalOf Refused ≡ 1) × (stateOf Refused ≡ 1) × (countOf Refused ≡ 0)
-unfolding refusalOf stateOf countOf
+refused : (refusalOf Refused ≡ 1) × (frameState Refused ≡ 1) × (countOf Refused ≡ 0)
+unfolding refusalOf frameState countOf
 refused = (refl, refl, refl)

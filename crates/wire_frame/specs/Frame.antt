@@ -31,10 +31,10 @@ refusalOf (Frame n) = 0
 refusalOf Refused = 1
 
 -- a whole frame, a refused one, one to wait for
-unfoldable pub stateOf : Cut → ℕ
-stateOf (Wait n) = 2
-stateOf (Frame n) = 0
-stateOf Refused = 1
+unfoldable pub frameState : Cut → ℕ
+frameState (Wait n) = 2
+frameState (Frame n) = 0
+frameState Refused = 1
 
 -- the message length of a whole frame, or the bytes missing
 unfoldable pub countOf : Cut → ℕ

@@ -1,7 +1,10 @@
 // Frames: the cut of a stream of bytes into messages. Each answer is what specs/Frame says of the bytes at hand.
 ghost use mathlib.Core.Path.{_≡_};
 ghost use Prim.Native.Nat.{_+_, _*_};
-ghost use Rattle.wire_frame.specs.Frame.{cutOf, refusalOf, stateOf, countOf};
+ghost use Rattle.wire_frame.specs.Frame.{cutOf, refusalOf, frameState, countOf};
+
+// The length of the longest message in a frame.
+const FRAME_LIMIT: usize = 2097152;
 
 // What stands at the start of a stream.
 pub enum Cut {
@@ -29,7 +32,7 @@ pub fn cut_frame(s: &[u8]) -> Cut
         return Cut::Wait { missing: 4 - held };
     }
     let length = number_of(s[0], s[1], s[2], s[3]);
-    if 2097152 < length {
+    if FRAME_LIMIT < length {
         return Cut::Refused;
     }
     if held < 4 + length {
@@ -42,7 +45,7 @@ pub fn cut_frame(s: &[u8]) -> Cut
 
 // 0 for a whole frame, 1 for a refused one, 2 for one to wait for.
 pub fn state_of(c: Cut) -> u8
-    ensures { λ r. ⌜ r ≡ stateOf c ⌝ }
+    ensures { λ r. ⌜ r ≡ frameState c ⌝ }
 {
     match c {
         Cut::Wait { missing: _ } => 2,

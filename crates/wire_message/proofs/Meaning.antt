@@ -8,12 +8,12 @@ use Rattle.wire_fields.specs.Items.{Item, items, lastFrom, numberOf, bytesOf}
 use Rattle.wire_fields.specs.declared.Last.{Last}
 use Rattle.wire_fields.specs.declared.Last.the-variants as last
 use Rattle.wire_fields.proofs.Items.{contentOf, last-means, number-means}
-use Rattle.wire_walk_io.specs.Places.{timeOf, timeFrom, timeIn}
+use Rattle.wire_walk_io.specs.Places.{timeNumbers, timeFrom, timeIn}
 use Rattle.wire_message.specs.Message.{timeSpec, timeField}
 use Rattle.wire_message.specs.Places.{timeValue}
 
 -- a TimeSpec by itself
-pub time-is : (s : List ℕ) → timeValue (timeOf s) ≡ timeSpec (items s)
+pub time-is : (s : List ℕ) → timeValue (timeNumbers s) ≡ timeSpec (items s)
 unfolding timeValue timeSpec
 time-is s = rw (number-means s 1, number-means s 2)
 

@@ -4,8 +4,8 @@ use mathlib.Core.List.{List}
 use lib.ListN.{length}
 use Rattle.base_laws.specs.Base.{part}
 use Rattle.wire_fields.specs.Items.{items, everyBytes}
-use Rattle.wire_fields.specs.declared.Span.{Span}
-use Rattle.wire_walk_io.specs.declared.time.Time.{Time}
+use Rattle.wire_types.specs.declared.Span.{Span}
+use Rattle.wire_types.specs.declared.Time.{Time}
 use Rattle.wire_message.specs.Signed.{int64, int32}
 use Rattle.wire_message.specs.Message as m
 use Rattle.wire_message.specs.Message.{Bytes, TimeSpec}
@@ -23,7 +23,7 @@ use Rattle.wire_message.specs.declared.Value.the-variants as held
 abbrev pub bytesAt : List ℕ → Span → Bytes
 bytesAt s p = part s (p .start) (p .end)
 
--- the place lies in the message's bytes
+-- the place is in the message's bytes
 abbrev pub Within : List ℕ → Span → Type 0
 Within s p = (p .start ≤ p .end) × (p .end ≤ length s)
 

@@ -1,11 +1,11 @@
 // What the messages of sudo_logsrv.proto mean, and the values of each embedded message: numbers as they were read, and places
 // of bytes. They are those of every slice, checked or not; a message that the check refuses has the fields before the broken one.
 use wire_fields::Last;
-use wire_fields::Span;
 use wire_fields::last_in;
 use wire_fields::number_in;
 use wire_fields::part_in;
-use wire_walk_io::time::Time;
+use wire_types::Span;
+use wire_types::Time;
 use wire_walk_io::time::time_in;
 ghost use mathlib.Core.Path.{_≡_};
 ghost use Rattle.wire_fields.specs.Items.{items, lastItem};
@@ -147,7 +147,7 @@ pub fn server_hello_in(s: &[u8]) -> ServerHello
     }
 }
 
-// The value of an entry: a number, or where its bytes lie. The strings of a list are its fields 1, its numbers come by
+// The value of an entry: a number, or where its bytes are. The strings of a list are its fields 1, its numbers come by
 // `wire_elements::next_number`.
 pub enum Value {
     Absent,

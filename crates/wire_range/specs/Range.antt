@@ -1,5 +1,5 @@
--- The ranges of document 01's table, as a step of their own: a reader by itself asks them after 2 to 6, a session after 9 and 15.
--- Only the values that count are asked, not the overwritten ones.
+-- The ranges of document 01's table, as a step of their own: a reader by itself tests them after 2 to 6, a session after 9 and 15.
+-- Only the values that count are tested, not the overwritten ones.
 use Prim.Native.Nat.{ℕ, _-_}
 use mathlib.Core.List.{List}
 use mathlib.Core.Bool.{Bool, true}
@@ -48,7 +48,7 @@ bodyFits m is =
     (pick (eqb m CommandSuspend) (suspendFits (timed is))
     (pick (eqb m InfoMessage) (entryFits (entry is)) true))))))))
 
--- the member of a ClientMessage is asked by its own message's ranges
+-- the member of a ClientMessage is tested by its own message's ranges
 unfoldable pub clientFits : Item → Bool
 clientFits none = true
 clientFits (number f v) = true

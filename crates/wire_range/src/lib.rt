@@ -1,6 +1,10 @@
 // The ranges of document 01's table: of each message.
 pub mod limits;
 
+use crate::limits::EXIT_VALUE_LIMIT;
+use crate::limits::LOG_ID_LIMIT;
+use crate::limits::SIGNAL_LIMIT;
+use crate::limits::WINDOW_LIMIT;
 use crate::limits::date_in;
 use crate::limits::entries_fit;
 use crate::limits::entry_fits;
@@ -11,6 +15,17 @@ use crate::limits::number_fits;
 use wire_fields::Last;
 use wire_fields::last_in;
 use wire_message::time_spec_in;
+use wire_schema::ACCEPT_MESSAGE;
+use wire_schema::ALERT_MESSAGE;
+use wire_schema::CHANGE_WINDOW_SIZE;
+use wire_schema::CLIENT_MESSAGE;
+use wire_schema::COMMAND_SUSPEND;
+use wire_schema::EXIT_MESSAGE;
+use wire_schema::INFO_MESSAGE;
+use wire_schema::IO_BUFFER;
+use wire_schema::REJECT_MESSAGE;
+use wire_schema::RESTART_MESSAGE;
+use wire_schema::SERVER_MESSAGE;
 use wire_schema::kind_of;
 ghost use mathlib.Core.Path.{_≡_};
 ghost use Rattle.wire_fields.specs.Items.{items, lastItem};
@@ -39,8 +54,8 @@ fn exit_fits(s: &[u8]) -> bool
     ensures { λ r. ⌜ r ≡ exitFits (m.exit (items (now (s .entry)))) ⌝ }
 {
     if moment_in(s, 1) {
-        if number_fits(s, 2, 255) {
-            return length_in(s, 4) <= 127;
+        if number_fits(s, 2, EXIT_VALUE_LIMIT) {
+            return length_in(s, 4) <= SIGNAL_LIMIT;
         }
         return false;
     }
@@ -52,7 +67,7 @@ fn restart_fits(s: &[u8]) -> bool
 {
     let n = length_in(s, 1);
     if 1 <= n {
-        if n <= 4095 {
+        if n <= LOG_ID_LIMIT {
             return moment_in(s, 2);
         }
         return false;
@@ -64,8 +79,8 @@ fn window_fits(s: &[u8]) -> bool
     ensures { λ r. ⌜ r ≡ windowFits (m.windowSize (items (now (s .entry)))) ⌝ }
 {
     if moment_in(s, 1) {
-        if number_fits(s, 2, 65535) {
-            return number_fits(s, 3, 65535);
+        if number_fits(s, 2, WINDOW_LIMIT) {
+            return number_fits(s, 3, WINDOW_LIMIT);
         }
         return false;
     }
@@ -78,7 +93,7 @@ fn suspend_fits(s: &[u8]) -> bool
     if moment_in(s, 1) {
         let n = length_in(s, 2);
         if 1 <= n {
-            return n <= 127;
+            return n <= SIGNAL_LIMIT;
         }
         return false;
     }
@@ -89,31 +104,31 @@ fn suspend_fits(s: &[u8]) -> bool
 pub fn body_fits(message: u8, s: &[u8]) -> bool
     ensures { λ r. ⌜ r ≡ bodyFits message (items (now (s .entry))) ⌝ }
 {
-    if message == 1 {
+    if message == ACCEPT_MESSAGE {
         return accept_fits(s);
     }
-    if message == 2 {
+    if message == REJECT_MESSAGE {
         return report_fits(s);
     }
-    if message == 3 {
+    if message == EXIT_MESSAGE {
         return exit_fits(s);
     }
-    if message == 4 {
+    if message == RESTART_MESSAGE {
         return restart_fits(s);
     }
-    if message == 5 {
+    if message == ALERT_MESSAGE {
         return report_fits(s);
     }
-    if message == 6 {
+    if message == IO_BUFFER {
         return moment_in(s, 1);
     }
-    if message == 7 {
+    if message == CHANGE_WINDOW_SIZE {
         return window_fits(s);
     }
-    if message == 8 {
+    if message == COMMAND_SUSPEND {
         return suspend_fits(s);
     }
-    if message == 11 {
+    if message == INFO_MESSAGE {
         return entry_fits(s);
     }
     true
@@ -130,7 +145,7 @@ fn client_fits(s: &[u8]) -> bool
             value: _,
         } => true,
         Last::Part { number, start, end } => {
-            let kind = kind_of(0, number);
+            let kind = kind_of(CLIENT_MESSAGE, number);
             if 16 <= kind {
                 return body_fits(kind - 16, &s[start..end]);
             }
@@ -162,10 +177,10 @@ fn server_fits(s: &[u8]) -> bool
 pub fn in_range(message: u8, s: &[u8]) -> bool
     ensures { λ r. ⌜ r ≡ inRange message (items (now (s .entry))) ⌝ }
 {
-    if message == 0 {
+    if message == CLIENT_MESSAGE {
         return client_fits(s);
     }
-    if message == 14 {
+    if message == SERVER_MESSAGE {
         return server_fits(s);
     }
     body_fits(message, s)

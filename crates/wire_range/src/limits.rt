@@ -5,7 +5,7 @@ use wire_fields::number_in;
 use wire_fields::part_in;
 use wire_message::Value;
 use wire_message::value_in;
-use wire_walk_io::time::Time;
+use wire_types::Time;
 use wire_walk_io::time::time_in;
 ghost use mathlib.Core.Path.{_≡_};
 ghost use Prim.Native.Nat.{_<_};
@@ -16,18 +16,31 @@ ghost use Rattle.wire_message.specs.Message as m;
 ghost use Rattle.wire_message.specs.Places.{timeValue};
 ghost use Rattle.wire_range.specs.Limits.{upTo, dateFits, momentFits, isSet, entryFits, entriesFit};
 
+// The greatest values of document 01's table.
+pub const NANOS_LIMIT: u64 = 999999999;
+
+const SECONDS_LIMIT: u64 = 4294967295;
+
+pub const EXIT_VALUE_LIMIT: u64 = 255;
+
+pub const WINDOW_LIMIT: u64 = 65535;
+
+pub const SIGNAL_LIMIT: usize = 127;
+
+pub const LOG_ID_LIMIT: usize = 4095;
+
 // A submit_time or an alert_time: the nanoseconds alone have a range. An int32 is its number's low 32 bits.
 fn date_fits(t: Time) -> bool
     ensures { λ r. ⌜ r ≡ dateFits (timeValue t) ⌝ }
 {
-    t.nanos % 4294967296 <= 999999999
+    t.nanos % 4294967296 <= NANOS_LIMIT
 }
 
 // A delay, a run_time, a resume_point or a commit_point.
 pub fn moment_fits(t: Time) -> bool
     ensures { λ r. ⌜ r ≡ momentFits (timeValue t) ⌝ }
 {
-    if t.seconds <= 4294967295 {
+    if t.seconds <= SECONDS_LIMIT {
         return date_fits(t);
     }
     false

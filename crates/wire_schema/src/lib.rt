@@ -3,27 +3,60 @@ ghost use mathlib.Core.Path.{_≡_};
 ghost use Rattle.wire_schema.specs.Schema.{kindOf};
 ghost use Rattle.wire_schema.specs.Rows.{lowOf, highOf, kindIn};
 
+// The messages, by the numbers that `specs/Schema.antt` gives them under the same names.
+pub const CLIENT_MESSAGE: u8 = 0;
+
+pub const ACCEPT_MESSAGE: u8 = 1;
+
+pub const REJECT_MESSAGE: u8 = 2;
+
+pub const EXIT_MESSAGE: u8 = 3;
+
+pub const RESTART_MESSAGE: u8 = 4;
+
+pub const ALERT_MESSAGE: u8 = 5;
+
+pub const IO_BUFFER: u8 = 6;
+
+pub const CHANGE_WINDOW_SIZE: u8 = 7;
+
+pub const COMMAND_SUSPEND: u8 = 8;
+
+pub const CLIENT_HELLO: u8 = 9;
+
+pub const TIME_SPEC: u8 = 10;
+
+pub const INFO_MESSAGE: u8 = 11;
+
+pub const STRING_LIST: u8 = 12;
+
+pub const NUMBER_LIST: u8 = 13;
+
+pub const SERVER_MESSAGE: u8 = 14;
+
+pub const SERVER_HELLO: u8 = 15;
+
 // The kinds of a message's fields 0 to 7, a byte for each. A `match`, and no constant table: a table is built anew at each use.
 fn low_of(message: u8) -> u64
     ensures { λ r. ⌜ r ≡ lowOf message ⌝ }
 {
     match message {
-        0 => 1591482694285529344,
-        1 => 52107776,
-        2 => 453253632,
-        3 => 4415276849664,
-        4 => 1704960,
-        5 => 453253632,
-        6 => 334336,
-        7 => 33692160,
-        8 => 268800,
-        9 => 1024,
-        10 => 131328,
-        11 => 32006163465216,
-        12 => 1024,
-        13 => 8192,
-        14 => 4415295201024,
-        15 => 12952273920,
+        CLIENT_MESSAGE => 1591482694285529344,
+        ACCEPT_MESSAGE => 52107776,
+        REJECT_MESSAGE => 453253632,
+        EXIT_MESSAGE => 4415276849664,
+        RESTART_MESSAGE => 1704960,
+        ALERT_MESSAGE => 453253632,
+        IO_BUFFER => 334336,
+        CHANGE_WINDOW_SIZE => 33692160,
+        COMMAND_SUSPEND => 268800,
+        CLIENT_HELLO => 1024,
+        TIME_SPEC => 131328,
+        INFO_MESSAGE => 32006163465216,
+        STRING_LIST => 1024,
+        NUMBER_LIST => 8192,
+        SERVER_MESSAGE => 4415295201024,
+        SERVER_HELLO => 12952273920,
         _ => 0,
     }
 }
@@ -32,7 +65,7 @@ fn low_of(message: u8) -> u64
 fn high_of(message: u8) -> u64
     ensures { λ r. ⌜ r ≡ highOf message ⌝ }
 {
-    if message == 0 {
+    if message == CLIENT_MESSAGE {
         return 27591257232918;
     }
     0

@@ -16,10 +16,10 @@ unfoldable pub fixedAt : List ℕ → ℕ → ℕ → ℕ → Payload
 fixedAt s at x width = pick (leb width (length s - x)) (payload.Fixed (x + width)) (payload.Refused 3 at)
 
 -- a number, from the varint at x
-unfoldable pub numberOf : ℕ → Varint → Payload
-numberOf x (Value v n) = payload.Number v n
-numberOf x PastEnd = payload.Refused 2 x
-numberOf x TooLong = payload.Refused 2 x
+unfoldable pub numberPayload : ℕ → Varint → Payload
+numberPayload x (Value v n) = payload.Number v n
+numberPayload x PastEnd = payload.Refused 2 x
+numberPayload x TooLong = payload.Refused 2 x
 
 -- as many bytes as the length at x says; 3 as above
 unfoldable pub partOf : List ℕ → ℕ → Varint → Payload
@@ -30,5 +30,5 @@ partOf s x TooLong = payload.Refused 2 x
 -- the value at x of the field whose tag is at `at`, by its wire type
 unfoldable pub payloadAt : List ℕ → ℕ → ℕ → ℕ → Payload
 payloadAt s at x w =
-    pick (eqb w 0) (numberOf x (varintAt s x))
+    pick (eqb w 0) (numberPayload x (varintAt s x))
     (pick (eqb w 1) (fixedAt s at x 8) (pick (eqb w 5) (fixedAt s at x 4) (partOf s x (varintAt s x))))

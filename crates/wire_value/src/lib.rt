@@ -5,7 +5,7 @@ use wire_varint::varint_at;
 ghost use mathlib.Core.Path.{_≡_};
 ghost use Prim.Native.Nat.{_<_};
 ghost use Rattle.wire_varint.specs.Varint.{varintAt};
-ghost use Rattle.wire_value.specs.Field.{fixedAt, numberOf, partOf, payloadAt};
+ghost use Rattle.wire_value.specs.Field.{fixedAt, numberPayload, partOf, payloadAt};
 
 // A field's value, or the refusal with its place.
 pub enum Payload {
@@ -37,7 +37,7 @@ fn fixed_at(s: &[u8], at: usize, from: usize, width: usize) -> Payload
 
 // A number alone, as packed lists have it.
 pub fn number_at(s: &[u8], at: usize) -> Payload
-    ensures { λ r. ⌜ r ≡ numberOf at (varintAt (now (s .entry)) at) ⌝ }
+    ensures { λ r. ⌜ r ≡ numberPayload at (varintAt (now (s .entry)) at) ⌝ }
 {
     match varint_at(s, at) {
         Varint::Value { value, next } => Payload::Number { value, next },
@@ -52,7 +52,7 @@ pub fn number_at(s: &[u8], at: usize) -> Payload
     }
 }
 
-// A length and its bytes, where the length takes two bytes or more or is refused: apart from `part_at`, so that its short way can be
+// A length and its bytes, where the length takes two bytes or more or is refused: apart from `part_at`, so that its fast path can be
 // inlined.
 fn part_slow(s: &[u8], at: usize) -> Payload
     ensures { λ r. ⌜ r ≡ partOf (now (s .entry)) at (varintAt (now (s .entry)) at) ⌝ }
@@ -83,7 +83,7 @@ fn part_slow(s: &[u8], at: usize) -> Payload
     }
 }
 
-// A length and its bytes. Nearly all lengths are one byte, which has a short way.
+// A length and its bytes. Nearly all lengths are one byte, which has a fast path.
 pub fn part_at(s: &[u8], at: usize) -> Payload
     ensures { λ r. ⌜ r ≡ partOf (now (s .entry)) at (varintAt (now (s .entry)) at) ⌝ }
 {

@@ -1,5 +1,5 @@
 -- Varints. Document 01: "A varint has 1 to 10 bytes, low seven bits first. A tenth byte above 1 is refused. Longer
--- forms than needed are read". What is refused is told apart inside: past the end of the list, or too long.
+-- forms than needed are read". What is refused is kept apart inside: past the end of the list, or too long.
 use Prim.Native.Nat.{ℕ, zero, suc, _+_, _-_, _*_}
 use mathlib.Core.List.{List}
 use lib.ListN.{length, getD}

@@ -42,7 +42,7 @@ pub fn tag_of(value: u64, next: usize) -> Tag
     }
 }
 
-// A tag of two bytes or more, or none: apart from `tag_at`, so that its short way can be inlined.
+// A tag of two bytes or more, or none: apart from `tag_at`, so that its fast path can be inlined.
 fn tag_slow(s: &[u8], at: usize) -> Tag
     ensures { λ r. ⌜ r ≡ tagAt (now (s .entry)) at ⌝ }
 {
@@ -53,7 +53,7 @@ fn tag_slow(s: &[u8], at: usize) -> Tag
     }
 }
 
-// The tag at a place. Nearly all tags are one byte, which has a short way.
+// The tag at a place. Nearly all tags are one byte, which has a fast path.
 pub fn tag_at(s: &[u8], at: usize) -> Tag
     ensures { λ r. ⌜ r ≡ tagAt (now (s .entry)) at ⌝ }
 {

@@ -29,17 +29,17 @@ use Rattle.wire_fields.specs.declared.Field.{Field}
 use Rattle.wire_fields.specs.declared.Field.the-variants as field
 use Rattle.wire_fields.specs.declared.Last.{Last}
 use Rattle.wire_fields.specs.declared.Last.the-variants as last
-use Rattle.wire_walk_io.specs.declared.time.Time.{Time}
+use Rattle.wire_types.specs.declared.Time.{Time}
 use Rattle.wire_walk_io.specs.declared.io.IoRead.the-variants as ioread
-use Rattle.wire_walk_client.specs.declared.ClientRead.{ClientRead}
-use Rattle.wire_walk_client.specs.declared.ClientRead.the-variants as client
+use Rattle.wire_types.specs.declared.ClientRead.{ClientRead}
+use Rattle.wire_types.specs.declared.ClientRead.the-variants as client
 use Rattle.base_laws.proofs.Parts.{length-part}
 use Rattle.wire_check_field.proofs.Checks.{at-end, Placed, placed}
-use Rattle.wire_fields.proofs.Follow.{none, span-lies}
+use Rattle.wire_fields.proofs.Follow.{none, span-in-bounds}
 use Rattle.wire_schema.proofs.Rows.{kinds}
-use Rattle.wire_check_field.proofs.Walk.{On, leads-on, ends-at, outside, inside-on, inside-stops, lies, no-number, field-leads, field-inside, field-part, field-stops}
+use Rattle.wire_check_field.proofs.Walk.{On, leads-on, ends-at, outside, inside-on, inside-stops, in-bounds, no-number, field-leads, field-inside, field-part, field-stops}
 
--- what an I/O buffer's walk says of its check and where its data lies
+-- what an I/O buffer's walk says of its check and where its data is
 io-fine : (c : Checked) (t : Time) (l : Last) (x y b d : ℕ) → ioRead c t l ≡ ioread.Fine x y b d → (c ≡ checked.Fine) × (startFrom l ≡ b) × (endFrom l ≡ d)
 unfolding ioRead
 io-fine checked.Fine t l x y b d e = (refl, cc, cc)
@@ -50,10 +50,10 @@ unfolding ioRead
 io-bad checked.Fine t l r p e = let z : _≡_ {A = ℕ} 0 1 = cc in absurd (omega arith)
 io-bad (checked.Refused u v) t l r p e = let a : u ≡ r = cc in let b : v ≡ p = cc in rw (a, b)
 
-data-lies : (s : List ℕ) (x y b d : ℕ) → ioBufferOf s ≡ ioread.Fine x y b d → (b ≤ d) × (d ≤ length s)
-data-lies s x y b d e =
+data-in-bounds : (s : List ℕ) (x y b d : ℕ) → ioBufferOf s ≡ ioread.Fine x y b d → (b ≤ d) × (d ≤ length s)
+data-in-bounds s x y b d e =
     let h = io-fine (checkOf 6 s) (timeIn 1 s) (lastIn 2 2 s) x y b d e in
-    let l = span-lies s 2 in
+    let l = span-in-bounds s 2 in
     (omega (arith, h .1, h .2, l .0), omega (arith, h .2, l .1))
 
 -- the members of a client message are the fields 1 to 13, each a message
@@ -204,12 +204,12 @@ module _ {a b : ℕ} {s : List ℕ} {at : ℕ} {found : ClientRead} {f w x : ℕ
     inside : stepAt 0 s at ≡ step.Inside (kindOf 0 f - 16) a b
     inside = let u = t .bytes .field in field-inside 0 s at f w x (omega arith) (u .tagged) (u .fits) a b (t .bytes .holds) (t .inner)
 
-    pub member-lies : (a ≤ b) × (b ≤ length s)
-    member-lies = let z = lies 0 s at (kindOf 0 f - 16) a b (t .bytes .field .more) inside in (z .1, z .2)
+    pub member-in-bounds : (a ≤ b) × (b ≤ length s)
+    member-in-bounds = let z = in-bounds 0 s at (kindOf 0 f - 16) a b (t .bytes .field .more) inside in (z .1, z .2)
 
     -- a place in the member is one in the message
     places : (p : ℕ) → p ≤ length (part s a b) → a + p ≤ length s
-    places p l = omega (arith, member-lies .0, member-lies .1, length-part s a b (member-lies .0) (member-lies .1))
+    places p l = omega (arith, member-in-bounds .0, member-in-bounds .1, length-part s a b (member-in-bounds .0) (member-in-bounds .1))
 
     enters : (c : ClientRead) → checkOf (kindOf 0 f - 16) (part s a b) ≡ checked.Fine
         → memberRead f a b (eqb (kindOf 0 f) 22) (ioBufferOf (part s a b)) ≡ c → (at < b) × Told s b c
@@ -242,9 +242,9 @@ module _ {a b : ℕ} {s : List ℕ} {at : ℕ} {found : ClientRead} {f w x : ℕ
         let h = io-fine (checkOf 6 (part s a b)) (timeIn 1 (part s a b)) (lastIn 2 2 (part s a b)) y z c d k in
         enters io-member (client.Io f y z (a + c) (a + d)) (rw (t .io) (h .0)) (rw (eq-eqb (kindOf 0 f) 22 (t .io), k))
 
-    pub io-lies : {y z c d : ℕ} → ioBufferOf (part s a b) ≡ ioread.Fine y z c d → (a + c ≤ length s) × (a + d ≤ length s)
-    io-lies {y} {z} {c} {d} k =
-        let l = data-lies (part s a b) y z c d k in
+    pub io-in-bounds : {y z c d : ℕ} → ioBufferOf (part s a b) ≡ ioread.Fine y z c d → (a + c ≤ length s) × (a + d ≤ length s)
+    io-in-bounds {y} {z} {c} {d} k =
+        let l = data-in-bounds (part s a b) y z c d k in
         (places io-member c (omega arith), places io-member d (l .1))
 
     module _ {r p : ℕ} (k : ioBufferOf (part s a b) ≡ ioread.Refused r p) where

@@ -1,4 +1,4 @@
--- Where a client message's member stands in its bytes, as the walk answers; of an I/O buffer its values.
+-- Where a client message's member stands in its bytes, as the walk returns it; of an I/O buffer its values.
 use Prim.Native.Nat.{ℕ, _+_}
 use mathlib.Core.List.{List}
 use mathlib.Core.Bool.{Bool, true, false}
@@ -14,8 +14,8 @@ use Rattle.wire_check_field.specs.declared.Checked.the-variants as checked
 use Rattle.wire_walk_io.specs.Places.{ioBufferOf}
 use Rattle.wire_walk_io.specs.declared.io.IoRead.{IoRead}
 use Rattle.wire_walk_io.specs.declared.io.IoRead.the-variants as ioread
-use Rattle.wire_walk_client.specs.declared.ClientRead.{ClientRead}
-use Rattle.wire_walk_client.specs.declared.ClientRead.the-variants as client
+use Rattle.wire_types.specs.declared.ClientRead.{ClientRead}
+use Rattle.wire_types.specs.declared.ClientRead.the-variants as client
 
 -- a member from a to e: an I/O buffer by its values, its data at the whole's places. A refused one does not come here: the whole was
 -- checked.

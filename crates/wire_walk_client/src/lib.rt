@@ -1,8 +1,10 @@
 // One walk that checks a ClientMessage and collects its member at once.
 use wire_check::check;
 use wire_check_field::Checked;
+use wire_schema::CLIENT_MESSAGE;
 use wire_schema::kind_of;
 use wire_schema::takes;
+use wire_types::ClientRead;
 use wire_value::Payload;
 use wire_value::payload_at;
 use wire_varint::tag::Tag;
@@ -11,27 +13,6 @@ use wire_walk_io::io::IoRead;
 use wire_walk_io::io::io_buffer;
 ghost use mathlib.Core.Path.{_≡_};
 ghost use Rattle.wire_walk_client.specs.Client.{clientOf};
-
-// A client message: its last member, an I/O buffer by its values; or its refusal with the place.
-pub enum ClientRead {
-    NoMember,
-    Io {
-        member: u64,
-        seconds: u64,
-        nanos: u64,
-        start: usize,
-        end: usize,
-    },
-    Member {
-        member: u64,
-        start: usize,
-        end: usize,
-    },
-    Refused {
-        refusal: u8,
-        place: usize,
-    },
-}
 
 // The check of a client message and its last member in one walk. It does not call `step_at`: that has one caller, and is inlined there.
 pub fn client_walk(s: &[u8]) -> ClientRead
@@ -45,7 +26,7 @@ pub fn client_walk(s: &[u8]) -> ClientRead
                 return ClientRead::Refused { refusal, place: at };
             }
             Tag::Field { number, wire, next } => {
-                let kind = kind_of(0, number);
+                let kind = kind_of(CLIENT_MESSAGE, number);
                 if takes(kind, wire) {
                     match payload_at(s, at, next, wire) {
                         Payload::Part { start, end } => {

@@ -16,7 +16,7 @@ use Rattle.wire_check_field.specs.Check.{stepFrom, stepAt}
 use Rattle.base_laws.specs.Base.{part}
 use Rattle.wire_check_field.specs.Check.{checkAt, checkOf}
 use Rattle.wire_fields.specs.Fields.{fieldOf, fieldsAt, among, later, lastOf, lastIn}
-use Rattle.wire_walk_io.specs.Places.{timeOf, timeFrom, timeRead, timeSpecOf, ioRead, ioBufferOf}
+use Rattle.wire_walk_io.specs.Places.{timeNumbers, timeFrom, timeRead, timeSpecOf, ioRead, ioBufferOf}
 use Rattle.wire_fields.specs.Fields.{startFrom, endFrom}
 use Rattle.wire_varint.specs.declared.Varint.the-variants.{Value, PastEnd, TooLong}
 use Rattle.wire_value.specs.declared.Payload.the-variants as payload
@@ -27,14 +27,14 @@ use Rattle.wire_fields.specs.declared.Field.{Field}
 use Rattle.wire_fields.specs.declared.Field.the-variants as field
 use Rattle.wire_fields.specs.declared.Last.{Last}
 use Rattle.wire_fields.specs.declared.Last.the-variants as last
-use Rattle.wire_walk_io.specs.declared.time.Time.{Time}
+use Rattle.wire_types.specs.declared.Time.{Time}
 use Rattle.wire_walk_io.specs.declared.time.TimeRead.the-variants as timeread
 use Rattle.wire_walk_io.specs.declared.io.IoRead.the-variants as ioread
 use Rattle.base_laws.proofs.Parts.{length-part}
 use Rattle.wire_check_field.proofs.Checks.{at-end, Placed, placed}
 use Rattle.wire_fields.proofs.Follow.{none}
 use Rattle.wire_schema.proofs.Rows.{kinds}
-use Rattle.wire_check_field.proofs.Walk.{On, leads-on, ends-at, outside, other, rest-leads, part-field, part-leads, part-inside, part-stops, inside-on, inside-stops, none-inside, no-tag, no-number, no-fixed, rest-stops, lies}
+use Rattle.wire_check_field.proofs.Walk.{On, leads-on, ends-at, outside, other, rest-leads, part-field, part-leads, part-inside, part-stops, inside-on, inside-stops, none-inside, no-tag, no-number, no-fixed, rest-stops, in-bounds}
 
 -- what a TimeSpec's walk says of its check and its numbers
 time-fine : (c : Checked) (t : Time) (x y : ℕ) → timeRead c t ≡ timeread.Fine x y → (c ≡ checked.Fine) × (t ≡ record { seconds = x; nanos = y })
@@ -157,21 +157,21 @@ module _ {a b : ℕ} {s : List ℕ} {at sec nan from to t x : ℕ} (d : Delay-at
   unfolding tagOf tagFits takes kindOf schema
   inside = part-inside 6 s at t x (omega arith) (d .tag .tagged) 1 (rw (d .ten)) refl (lit≤ tt) a b (d .holds)
 
-  pub delay-lies : (a ≤ b) × (b ≤ length s)
-  delay-lies = let z = lies 6 s at 10 a b (d .tag .more) inside in (z .1, z .2)
+  pub delay-in-bounds : (a ≤ b) × (b ≤ length s)
+  delay-in-bounds = let z = in-bounds 6 s at 10 a b (d .tag .more) inside in (z .1, z .2)
 
   pub delayed : {y z : ℕ} → timeSpecOf (part s a b) ≡ timeread.Fine y z → (at < b) × Walked s b y z from to
   unfolding tagOf tagFits takes kindOf schema later among timeFrom
   delayed {y} {z} e =
       let g = d .tag in
-      let h = time-fine (checkOf 10 (part s a b)) (timeOf (part s a b)) y z e in
+      let h = time-fine (checkOf 10 (part s a b)) (timeNumbers (part s a b)) y z e in
       let is = part-field 6 s at t x (omega arith) (g .tagged) 1 (rw (d .ten)) refl a b (d .holds) in
       on (g .walked) (g .more) b y z from to (field.Part 1 a b) (inside-on 6 s at 10 a b (g .more) inside 1 is (h .0))
       (h .1) (g .walked .from-is) (g .walked .to-is)
 
   module _ {r p : ℕ} (e : timeSpecOf (part s a b) ≡ timeread.Refused r p) where
     bad : checkOf 10 (part s a b) ≡ checked.Refused r p
-    bad = time-bad (checkOf 10 (part s a b)) (timeOf (part s a b)) r p e
+    bad = time-bad (checkOf 10 (part s a b)) (timeNumbers (part s a b)) r p e
 
     pub delay-refused : ioread.Refused r (a + p) ≡ ioBufferOf s
     delay-refused = stopped (d .tag .walked) r (a + p) (inside-stops 6 s at 10 a b (d .tag .more) inside r p bad)
@@ -179,7 +179,7 @@ module _ {a b : ℕ} {s : List ℕ} {at sec nan from to t x : ℕ} (d : Delay-at
     -- a place in the delay is one in the buffer
     pub delay-place : a + p ≤ length s
     delay-place =
-        let l = delay-lies in
+        let l = delay-in-bounds in
         omega (arith, length-part s a b (l .0) (l .1), subst (Placed (part s a b)) bad (placed 10 (part s a b) 0))
 
 module _ {s : List ℕ} {at sec nan from to t x : ℕ} (g : Tag-at s at sec nan from to t x) where

@@ -3,6 +3,7 @@ use crate::time::TimeRead;
 use crate::time::time_spec;
 use wire_check_field::Step;
 use wire_check_field::rest_at;
+use wire_schema::IO_BUFFER;
 use wire_value::Payload;
 use wire_value::part_at;
 use wire_varint::Varint;
@@ -10,7 +11,7 @@ use wire_varint::varint_at;
 ghost use mathlib.Core.Path.{_≡_};
 ghost use Rattle.wire_walk_io.specs.Places.{ioBufferOf};
 
-// An I/O buffer: its delay and where its data lies, or its refusal with the place.
+// An I/O buffer: its delay and where its data is, or its refusal with the place.
 pub enum IoRead {
     Fine {
         seconds: u64,
@@ -88,7 +89,7 @@ pub fn io_buffer(s: &[u8]) -> IoRead
                         }
                     }
                 } else {
-                    match rest_at(6, s, at, tag, next) {
+                    match rest_at(IO_BUFFER, s, at, tag, next) {
                         Step::Next { next: after } => {
                             at = after;
                         }

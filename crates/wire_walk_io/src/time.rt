@@ -4,16 +4,12 @@ use wire_check_field::rest_at;
 use wire_fields::Last;
 use wire_fields::last_in;
 use wire_fields::number_in;
+use wire_schema::TIME_SPEC;
+use wire_types::Time;
 use wire_varint::Varint;
 use wire_varint::varint_at;
 ghost use mathlib.Core.Path.{_≡_};
 ghost use Rattle.wire_walk_io.specs.Places.{timeIn, timeSpecOf};
-
-// A TimeSpec's two numbers as they were read, 64 bits each: the seconds are an int64, the nanoseconds the low 32 bits.
-pub struct Time {
-    pub seconds: u64,
-    pub nanos: u64,
-}
 
 // The last TimeSpec given for a field; 0 and 0 where there is none.
 pub fn time_in(s: &[u8], number: u64) -> Time
@@ -100,7 +96,7 @@ pub fn time_spec(s: &[u8]) -> TimeRead
                         }
                     }
                 } else {
-                    match rest_at(10, s, at, tag, next) {
+                    match rest_at(TIME_SPEC, s, at, tag, next) {
                         Step::Next { next: after } => {
                             at = after;
                         }

@@ -1,6 +1,6 @@
-// The writers of a ClientMessage's members that open a session or an event: hello, accept, reject, alert and restart; `record_writer` has
-// the others. A writer, here and in `record_writer`, `server_writer`, `entry_writer` and `list_writer`, takes its message's fields,
-// `framed` (with the four bytes of a frame before it) and the buffer, from whose start it writes; it answers document 01's
+// The writers of a ClientMessage's members that open a session or an event: hello, accept, reject, alert and restart; `write_io` has
+// the others. A writer, here and in `write_io`, `write_server`, `write_entry` and `write_list`, takes its message's fields,
+// `framed` (with the four bytes of a frame before it) and the buffer, from whose start it writes; it returns document 01's
 // refusal, 0 for none, and how many bytes it wrote. On a refusal nothing is written. `member` is the field number of the message
 // around it, in which it is written, or 0 to write it by itself; any other number is refused with 7.
 use write_message::fits::both;
@@ -19,9 +19,11 @@ ghost use lib.ListN.{length};
 ghost use Rattle.write_forms.specs.Draft.{acceptPieces, reportPieces, restartPieces, clientHelloPieces, wrapped};
 ghost use Rattle.write_forms.specs.Run.{runRefusal};
 ghost use Rattle.write_forms.specs.Outcome.{buffer};
-ghost use Rattle.write_pieces.specs.Put.{stamp};
+ghost use Rattle.write_pieces.specs.Parts.{stamp};
 ghost use Rattle.write_message.specs.Fits.{clientHelloFits, acceptFits, reportMember, reportFits, restartFits};
 ghost use Rattle.write_message.specs.Wrote.{wrote};
+
+const LOG_ID_LIMIT: usize = 4095;
 
 // A ClientHello, member 13.
 pub fn write_client_hello(member: u64, client_id: &[u8], framed: bool, out: &mut [u8]) -> Wrote
@@ -131,7 +133,7 @@ pub fn write_restart(
 {
     let fits = both(
         member_in(4, 4, member),
-        both(sized(1, 4095, log_id), moment_fits(seconds, nanos)),
+        both(sized(1, LOG_ID_LIMIT, log_id), moment_fits(seconds, nanos)),
     );
     let p = timed(2, seconds, nanos, 0, 0);
     write_plain(0, fits, member, p, log_id, &[], &[], &[], &[], framed, out)

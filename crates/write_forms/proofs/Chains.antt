@@ -19,7 +19,7 @@ use Rattle.wire_fields.specs.declared.Field.{Field}
 use Rattle.wire_fields.specs.declared.Field.the-variants as field
 use Rattle.wire_check_field.proofs.Steps.{StepRead, step-at}
 use Rattle.wire_check_field.proofs.Checks.{next, at-end}
-use Rattle.write_forms.proofs.Moves.{Lies, movedStep, TakenStep, TakenField, step-moves, part-moves}
+use Rattle.write_forms.proofs.Moves.{InBounds, movedStep, TakenStep, TakenField, step-moves, part-moves}
 
 pub data Chain (Leads : ℕ → ℕ → Type 0) (size : ℕ) : ℕ → Type 0 where
   done : Chain Leads size size
@@ -75,7 +75,7 @@ module _ (m : ℕ) (s : List ℕ) where
   passes (more {at} {n} lt le (into {i} {a} w e c) r) =
       next m s at (omega arith) ∙ ap (λ (x : Step). onStep checkAt m s x) e ∙ rw c (passes r)
 
-pub stepped-moves : {S s : List ℕ} {p : ℕ} → Lies S s p → (m a b : ℕ) → b ≤ length s → Stepped m s a b → Stepped m S (p + a) (p + b)
+pub stepped-moves : {S s : List ℕ} {p : ℕ} → InBounds S s p → (m a b : ℕ) → b ≤ length s → Stepped m s a b → Stepped m S (p + a) (p + b)
 stepped-moves {S} {s} {p} l m a b le (over e) = over (step-moves l m a (subst TakenStep (sym e) tt) ∙ ap (movedStep p) e)
 stepped-moves {S} {s} {p} l m at b le (into {i} {a} w e c) =
     into {i = i} {a = p + a} (omega arith) (step-moves l m at (subst TakenStep (sym e) tt) ∙ ap (movedStep p) e) (rw (part-moves l a b le) c)

@@ -29,12 +29,12 @@ use Rattle.write_forms.proofs.Runs.{Run, run-of, run-passes, run-others
 
 -- ---- a TimeSpec
 
-length-varint : (k v : ℕ) → length (w.varintFrom k v) ≤ suc k
-unfolding w.varintFrom
+length-varint : (k v : ℕ) → length (w.shortestFrom k v) ≤ suc k
+unfolding w.shortestFrom
 length-varint zero v = omega arith
 length-varint (suc k) v = go (ltb v 128) (length-varint k (v / 128))
   where
-    go : (t : Bool) → length (w.varintFrom k (v / 128)) ≤ suc k → length (pick t (v ∷ []) ((v % 128 + 128) ∷ w.varintFrom k (v / 128))) ≤ suc (suc k)
+    go : (t : Bool) → length (w.shortestFrom k (v / 128)) ≤ suc k → length (pick t (v ∷ []) ((v % 128 + 128) ∷ w.shortestFrom k (v / 128))) ≤ suc (suc k)
     go true h = omega arith
     go false h = omega arith
 

@@ -14,19 +14,19 @@ use Rattle.wire_fields.specs.declared.Field.{Field}
 use Rattle.wire_fields.specs.declared.Field.the-variants as field
 use Rattle.wire_fields.proofs.Follow.{FieldRead, field-read, follow, none}
 use Rattle.wire_elements.specs.Elements.{itemsAt}
-use Rattle.write_forms.proofs.Moves.{Lies, lies-first, lies-second, movedField, TakenField, part-moves, field-moves}
+use Rattle.write_forms.proofs.Moves.{InBounds, in-bounds-first, in-bounds-second, movedField, TakenField, part-moves, field-moves}
 use Rattle.write_forms.proofs.Chains.{Chain, done, more, moved, Stepped, chain-of, passes, stepped-moves, endOf, FieldTo}
 
 -- a chain of any kind in each of two lists, one behind the other
 pub joined : (Leads : List ℕ → ℕ → ℕ → Type 0)
-    → ((S s : List ℕ) (p : ℕ) → Lies S s p → (a b : ℕ) → b ≤ length s → Leads s a b → Leads S (p + a) (p + b))
+    → ((S s : List ℕ) (p : ℕ) → InBounds S s p → (a b : ℕ) → b ≤ length s → Leads s a b → Leads S (p + a) (p + b))
     → (a b : List ℕ) → Chain (Leads a) (length a) 0 → Chain (Leads b) (length b) 0 → Chain (Leads (a ++ b)) (length (a ++ b)) 0
 joined Leads moves a b x y =
     let n : length a + length b ≡ length (a ++ b) = sym (length-append a b) in
     let z : Chain (Leads (a ++ b)) (length (a ++ b)) (length a + length b) = rw n done in
     let w : Chain (Leads (a ++ b)) (length (a ++ b)) (length a) =
-    rw add-zero at (moved (Leads (a ++ b)) (length a) (moves (a ++ b) b (length a) (lies-second a b)) (lies-second a b .fits) y z) in
-    moved (Leads (a ++ b)) 0 (moves (a ++ b) a 0 (lies-first a b)) (lies-first a b .fits) x (rw zero-add w)
+    rw add-zero at (moved (Leads (a ++ b)) (length a) (moves (a ++ b) b (length a) (in-bounds-second a b)) (in-bounds-second a b .fits) y z) in
+    moved (Leads (a ++ b)) 0 (moves (a ++ b) a 0 (in-bounds-first a b)) (in-bounds-first a b .fits) x (rw zero-add w)
 
 pub check-joined : (m : ℕ) (a b : List ℕ) → checkOf m a ≡ checked.Fine → checkOf m b ≡ checked.Fine → checkOf m (a ++ b) ≡ checked.Fine
 check-joined m a b x y = passes m (a ++ b) (joined (Stepped m) (λ S s p l. stepped-moves l m) a b (chain-of m a x) (chain-of m b y))
@@ -39,7 +39,7 @@ follows go (field.Fixed f n) h = refl
 follows go (field.Part f a e) h = refl
 follows go field.Broken h = absurd h
 
-module _ {S s : List ℕ} {p : ℕ} (l : Lies S s p) where
+module _ {S s : List ℕ} {p : ℕ} (l : InBounds S s p) where
   item-moves : (at : ℕ) (e : Field) → FieldRead s at e → itemOf S (movedField p e) ≡ itemOf s e
   item-moves at (field.Number f v n) r = refl
   item-moves at (field.Fixed f n) r = refl
@@ -70,7 +70,7 @@ module _ {S s : List ℕ} {p : ℕ} (l : Lies S s p) where
 abbrev pub Whole : List ℕ → Type 0
 Whole s = Chain (FieldTo s) (length s) 0
 
-field-to-moves : (S s : List ℕ) (p : ℕ) → Lies S s p → (a b : ℕ) → b ≤ length s → FieldTo s a b → FieldTo S (p + a) (p + b)
+field-to-moves : (S s : List ℕ) (p : ℕ) → InBounds S s p → (a b : ℕ) → b ≤ length s → FieldTo s a b → FieldTo S (p + a) (p + b)
 field-to-moves S s p l a b le h =
     let q = taken-moves l (fieldAt s a) (h .taken) in
     let e = field-moves l a (h .taken) in
@@ -86,8 +86,8 @@ pub items-joined : (a b : List ℕ) → Whole a → Whole b → items (a ++ b) �
 unfolding items
 items-joined a b x y =
     let u : itemsAt (a ++ b) 0 ≡ itemsAt a 0 ++ itemsAt (a ++ b) (length a) =
-    rw (zero-add (length a)) at (items-move (lies-first a b) x) in
+    rw (zero-add (length a)) at (items-move (in-bounds-first a b) x) in
     let v : itemsAt (a ++ b) (length a) ≡ itemsAt b 0 ++ itemsAt (a ++ b) (length a + length b) =
-    rw add-zero at (items-move (lies-second a b) y) in
+    rw add-zero at (items-move (in-bounds-second a b) y) in
     let w : itemsAt (a ++ b) (length a + length b) ≡ [] = ap (map (itemOf (a ++ b))) (none (a ++ b) (length a + length b) (omega (arith, length-append a b))) in
     u ∙ ap (λ (i : List Item). itemsAt a 0 ++ i) (v ∙ ap (λ (i : List Item). itemsAt b 0 ++ i) w ∙ append-nil (itemsAt b 0))

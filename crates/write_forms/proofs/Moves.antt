@@ -15,7 +15,7 @@ use Rattle.base_laws.proofs.Order.{lt-or-le}
 use Rattle.base_laws.proofs.Parts.{part-part}
 use Rattle.wire_varint.specs.Varint.{above, varintFrom, varintAt}
 use Rattle.wire_schema.specs.Schema.{kindOf, takes}
-use Rattle.wire_value.specs.Field.{fixedAt, numberOf, partOf, payloadAt}
+use Rattle.wire_value.specs.Field.{fixedAt, numberPayload, partOf, payloadAt}
 use Rattle.wire_varint.specs.Tag.{tagFits, tagOf, tagAt}
 use Rattle.wire_check_field.specs.Check.{stepOf, stepFrom, stepAt}
 use Rattle.wire_fields.specs.Fields.{fieldOf, fieldFrom, fieldAt}
@@ -32,17 +32,17 @@ use Rattle.wire_fields.specs.declared.Field.the-variants as field
 use Rattle.wire_varint.proofs.Varints.{past, last-fits, last-long, ends, goes-on}
 
 -- s lies in S from place p on
-pub record Lies (S s : List ℕ) (p : ℕ) : Type 0 where
+pub record InBounds (S s : List ℕ) (p : ℕ) : Type 0 where
   pub fits : p + length s ≤ length S
   pub same : part S p (p + length s) ≡ s
 
-pub lies-first : (a b : List ℕ) → Lies (a ++ b) a 0
-lies-first a b =
+pub in-bounds-first : (a b : List ℕ) → InBounds (a ++ b) a 0
+in-bounds-first a b =
     let n : 0 + length a - 0 ≡ length a = omega arith in
     record { fits = omega (arith, length-append a b); same = rw n (take-at a b (length a) refl) }
 
-pub lies-second : (a b : List ℕ) → Lies (a ++ b) b (length a)
-lies-second a b =
+pub in-bounds-second : (a b : List ℕ) → InBounds (a ++ b) b (length a)
+in-bounds-second a b =
     let n : length a + length b - length a ≡ length b = omega arith in
     record { fits = omega (arith, length-append a b); same = rw (n, drop-at a b (length a) refl) (take-length b) }
 
@@ -88,7 +88,7 @@ TakenField (field.Fixed f n) = Unit
 TakenField (field.Part f a e) = Unit
 TakenField field.Broken = ⊥
 
-module _ {S s : List ℕ} {p : ℕ} (l : Lies S s p) where
+module _ {S s : List ℕ} {p : ℕ} (l : InBounds S s p) where
   byte-moves : (i : ℕ) → i < length s → getD S (p + i) 0 ≡ getD s i 0
   byte-moves i h =
       let w : i < p + length s - p = omega arith in
@@ -155,8 +155,8 @@ module _ {S s : List ℕ} {p : ℕ} (l : Lies S s p) where
   pick-moves true a b c d f g = f
   pick-moves false a b c d f g = g
 
-  number-moves : (x : ℕ) (r : Varint) → varintAt s x ≡ r → Moves (numberOf x r) (numberOf (p + x) (varintAt S (p + x)))
-  unfolding numberOf
+  number-moves : (x : ℕ) (r : Varint) → varintAt s x ≡ r → Moves (numberPayload x r) (numberPayload (p + x) (varintAt S (p + x)))
+  unfolding numberPayload
   number-moves x (Value v n) e h = rw (varint-moves 9 x v n e)
   number-moves x PastEnd e h = absurd h
   number-moves x TooLong e h = absurd h
@@ -232,8 +232,8 @@ module _ {S s : List ℕ} {p : ℕ} (l : Lies S s p) where
   unfolding stepAt
   step-moves m at = go (eqb m 16)
     where
-      go : (u : Bool) → TakenStep (pick u (stepOf 0 (numberOf at (varintAt s at))) (stepFrom m s at (tagAt s at)))
-          → pick u (stepOf 0 (numberOf (p + at) (varintAt S (p + at)))) (stepFrom m S (p + at) (tagAt S (p + at)))
-          ≡ movedStep p (pick u (stepOf 0 (numberOf at (varintAt s at))) (stepFrom m s at (tagAt s at)))
-      go true = of-step 0 (numberOf at (varintAt s at)) (numberOf (p + at) (varintAt S (p + at))) (number-moves at (varintAt s at) refl)
+      go : (u : Bool) → TakenStep (pick u (stepOf 0 (numberPayload at (varintAt s at))) (stepFrom m s at (tagAt s at)))
+          → pick u (stepOf 0 (numberPayload (p + at) (varintAt S (p + at)))) (stepFrom m S (p + at) (tagAt S (p + at)))
+          ≡ movedStep p (pick u (stepOf 0 (numberPayload at (varintAt s at))) (stepFrom m s at (tagAt s at)))
+      go true = of-step 0 (numberPayload at (varintAt s at)) (numberPayload (p + at) (varintAt S (p + at))) (number-moves at (varintAt s at) refl)
       go false = from-step m at (tagAt s at) refl

@@ -11,7 +11,7 @@ use lib.Dec.{eqb}
 use borrow.Author.Tests.{eqb-true}
 use Rattle.base_laws.specs.Base.{pick, part}
 use Rattle.wire_varint.specs.Varint.{varintFrom, varintAt}
-use Rattle.wire_value.specs.Field.{numberOf}
+use Rattle.wire_value.specs.Field.{numberPayload}
 use Rattle.wire_check_field.specs.Check.{stepOf, stepAt}
 use Rattle.wire_check_field.specs.Check.{checkOf}
 use Rattle.wire_fields.specs.Items as i
@@ -26,7 +26,7 @@ use Rattle.wire_elements.proofs.Packed as p
 use Rattle.wire_elements.proofs.Packed.{varints-follow}
 use Rattle.write_forms.specs.Pieces.{varint, packed}
 use Rattle.write_forms.specs.RoundTrip.{AllFit}
-use Rattle.write_forms.proofs.Moves.{lies-first, lies-second, varint-moves}
+use Rattle.write_forms.proofs.Moves.{in-bounds-first, in-bounds-second, varint-moves}
 use Rattle.write_forms.proofs.Chains.{done, more, over, passes}
 use Rattle.write_forms.proofs.Joined.{check-joined}
 use Rattle.write_forms.proofs.Single.{varint-back}
@@ -38,14 +38,14 @@ positive v h = let r = subst (Read (varint v) 0) (varint-back v h) (read (varint
 behind : (a b : List ℕ) → varintsAt (a ++ b) (length a) ≡ varints b
 behind a b =
     let s : List ℕ = a ++ b in
-    let e : part s (length a) (length s) ≡ b = rw (length-append a b) (lies-second a b .same) in
+    let e : part s (length a) (length s) ≡ b = rw (length-append a b) (in-bounds-second a b .same) in
     sym (ap varints (sym e) ∙ p.packed s (length a) (length s) ∙ ap (λ (l : List ℕ). varintsAt l (length a)) (take-length s))
 
 first : (v : ℕ) (rest : List ℕ) → v < 2 ^ 64 → varints (varint v ++ rest) ≡ v ∷ varints rest
 unfolding onVarint
 first v rest h =
     let e : varintAt (varint v ++ rest) 0 ≡ Value v (length (varint v)) =
-    rw (zero-add (length (varint v))) at (varint-moves (lies-first (varint v) rest) 9 0 v (length (varint v)) (varint-back v h)) in
+    rw (zero-add (length (varint v))) at (varint-moves (in-bounds-first (varint v) rest) 9 0 v (length (varint v)) (varint-back v h)) in
     varints-follow (varint v ++ rest) 0 ∙ ap (λ (r : Varint). onVarint (varintsAt (varint v ++ rest)) r) e ∙ ap (λ (l : List ℕ). v ∷ l) (behind (varint v) rest)
 
 no-varints : varints [] ≡ []
@@ -58,7 +58,7 @@ packed-back [] h = no-varints
 packed-back (v ∷ vs) h = first v (packed vs) (h .0) ∙ ap (λ (l : List ℕ). v ∷ l) (packed-back vs (h .1))
 
 varint-passes : (v : ℕ) → v < 2 ^ 64 → checkOf 16 (varint v) ≡ checked.Fine
-unfolding stepAt stepOf numberOf
+unfolding stepAt stepOf numberPayload
 varint-passes v h =
     let e : stepAt 16 (varint v) 0 ≡ step.Next (length (varint v)) = rw (varint-back v h) in
     passes 16 (varint v) (more (positive v h) (omega arith) (over e) done)

@@ -11,7 +11,7 @@ use Rattle.base_laws.specs.Base.{pick, both, part}
 use Rattle.base_laws.proofs.Order.{picked}
 use Rattle.wire_varint.specs.Varint.{varintAt}
 use Rattle.wire_schema.specs.Schema.{kindOf, takes, InfoMessage}
-use Rattle.wire_value.specs.Field.{fixedAt, numberOf, partOf, payloadAt}
+use Rattle.wire_value.specs.Field.{fixedAt, numberPayload, partOf, payloadAt}
 use Rattle.wire_varint.specs.Tag.{tagFits, tagOf, tagAt}
 use Rattle.wire_check_field.specs.Check.{stepOf, stepFrom, stepAt}
 use Rattle.wire_check_field.specs.Check.{before, onStep, checkFrom, checkAt, checkOf}

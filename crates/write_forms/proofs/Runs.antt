@@ -35,7 +35,7 @@ use Rattle.wire_fields.proofs.Follow.{follow, none}
 use Rattle.wire_elements.specs.Elements.{itemsAt}
 use Rattle.write_forms.specs.Pieces.{head}
 use Rattle.write_forms.specs.Run.{entryOf, entryAt, onEntry, runFrom, runAt}
-use Rattle.write_forms.proofs.Moves.{Lies, Taken, TakenField, movedPayload, part-moves, tag-moves, payload-moves}
+use Rattle.write_forms.proofs.Moves.{InBounds, Taken, TakenField, movedPayload, part-moves, tag-moves, payload-moves}
 use Rattle.write_forms.proofs.Chains.{Chain, done, more, both-fine, Stepped, into, passes, endOf, FieldTo}
 use Rattle.write_forms.proofs.Joined.{joined}
 use Rattle.write_forms.proofs.Single.{single-bytes, positive, held}
@@ -168,7 +168,7 @@ module _ (f : ℕ) (s : List ℕ) where
 
 -- ---- written runs
 
-entry-moves : (f : ℕ) (S s : List ℕ) (p : ℕ) → Lies S s p → (a b : ℕ) → b ≤ length s → EntryAt f s a b → EntryAt f S (p + a) (p + b)
+entry-moves : (f : ℕ) (S s : List ℕ) (p : ℕ) → InBounds S s p → (a b : ℕ) → b ≤ length s → EntryAt f s a b → EntryAt f S (p + a) (p + b)
 entry-moves f S s p l a b le h = record {
   value = p + h .value;
   start = p + h .start;

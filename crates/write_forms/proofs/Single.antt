@@ -14,7 +14,7 @@ use Rattle.base_laws.proofs.Order.{lt-or-le}
 use Rattle.wire_varint.specs.Varint as r
 use Rattle.wire_varint.specs.Varint.{varintAt}
 use Rattle.wire_schema.specs.Schema.{kindOf, takes}
-use Rattle.wire_value.specs.Field.{numberOf, partOf, payloadAt}
+use Rattle.wire_value.specs.Field.{numberPayload, partOf, payloadAt}
 use Rattle.wire_varint.specs.Tag.{tagFits, tagOf, tagAt}
 use Rattle.wire_check_field.specs.Check.{stepOf, stepFrom, stepAt}
 use Rattle.wire_check_field.specs.Check.{checkOf}
@@ -33,16 +33,16 @@ use Rattle.wire_fields.proofs.Reach.{TagRead, tag-at}
 use Rattle.wire_fields.proofs.Follow.{follow, none}
 use Rattle.write_forms.specs.Pieces as w
 use Rattle.write_forms.specs.Pieces.{varint, head}
-use Rattle.write_forms.proofs.Moves.{lies-first, lies-second, TakenField, varint-moves, tag-moves}
+use Rattle.write_forms.proofs.Moves.{in-bounds-first, in-bounds-second, TakenField, varint-moves, tag-moves}
 use Rattle.write_forms.proofs.Chains.{done, more, over, into, passes, endOf}
 use Rattle.write_forms.proofs.Joined.{Whole}
 
-short : (k v : ℕ) → v < 128 → w.varintFrom (suc k) v ≡ v ∷ []
-unfolding w.varintFrom
+short : (k v : ℕ) → v < 128 → w.shortestFrom (suc k) v ≡ v ∷ []
+unfolding w.shortestFrom
 short k v h = simp (lt-ltb _ _ h)
 
-long : (k v : ℕ) → 128 ≤ v → w.varintFrom (suc k) v ≡ (v % 128 + 128) ∷ w.varintFrom k (v / 128)
-unfolding w.varintFrom
+long : (k v : ℕ) → 128 ≤ v → w.shortestFrom (suc k) v ≡ (v % 128 + 128) ∷ w.shortestFrom k (v / 128)
+unfolding w.shortestFrom
 long k v h = simp (le-ltb _ _ h)
 
 -- a low byte, and the rest read back
@@ -51,18 +51,18 @@ low-byte : (k v : ℕ) (rest : List ℕ) → 128 ≤ v → r.varintFrom k rest 0
 low-byte k v rest l h =
     let b : ℕ = v % 128 + 128 in
     let s : List ℕ = b ∷ rest in
-    let q : r.varintFrom k s 1 ≡ Value (v / 128) (1 + length rest) = varint-moves (lies-second (b ∷ []) rest) k 0 (v / 128) (length rest) h in
+    let q : r.varintFrom k s 1 ≡ Value (v / 128) (1 + length rest) = varint-moves (in-bounds-second (b ∷ []) rest) k 0 (v / 128) (length rest) h in
     let e : b - 128 + 128 * (v / 128) ≡ v = omega arith in
     let n : 1 + length rest ≡ length s = omega arith in
     sym (goes-on s 0 (suc k) k refl (omega arith) (omega arith)) ∙ rw (q, e, n)
 
-back : (k v : ℕ) → v < lim k → r.varintFrom k (w.varintFrom k v) 0 ≡ Value v (length (w.varintFrom k v))
-unfolding lim w.varintFrom
+back : (k v : ℕ) → v < lim k → r.varintFrom k (w.shortestFrom k v) 0 ≡ Value v (length (w.shortestFrom k v))
+unfolding lim w.shortestFrom
 back zero v h = sym (last-fits (v ∷ []) 0 0 refl (omega arith) (omega arith))
 back (suc k) v h =
     ⊎-elim
     (λ (l : v < 128). rw (short k v l) (sym (ends (v ∷ []) 0 (suc k) (omega arith) (omega arith) l)))
-    (λ (l : 128 ≤ v). rw (long k v l) (low-byte k v (w.varintFrom k (v / 128)) l (back k (v / 128) (omega arith))))
+    (λ (l : 128 ≤ v). rw (long k v l) (low-byte k v (w.shortestFrom k (v / 128)) l (back k (v / 128) (omega arith))))
     (lt-or-le v 128)
 
 pub varint-back : (v : ℕ) → v < 2 ^ 64 → varintAt (varint v) 0 ≡ Value v (length (varint v))
@@ -88,15 +88,15 @@ pub record Single (f u : ℕ) (s : List ℕ) (q : Payload) : Type 0 where
 
 pub single-number : (f v : ℕ) → 1 ≤ f → f < 2 ^ 29 → v < 2 ^ 64
     → Single f 0 (varint (f * 8) ++ varint v) (payload.Number v (length (varint (f * 8) ++ varint v)))
-unfolding payloadAt numberOf
+unfolding payloadAt numberPayload
 single-number f v h l i =
     let G : List ℕ = varint (f * 8) in
     let N : List ℕ = varint v in
     let a : varintAt (G ++ N) (length G) ≡ Value v (length G + length N) =
-    rw add-zero at (varint-moves (lies-second G N) 9 0 v (length N) (varint-back v i)) in
+    rw add-zero at (varint-moves (in-bounds-second G N) 9 0 v (length N) (varint-back v i)) in
     record {
       value = length G;
-      tagged = rw (zero-add (length G)) at (tag-moves (lies-first G N) 0 f 0 (length G) (tag-back f 0 (f * 8) h l (omega arith) (omega arith)));
+      tagged = rw (zero-add (length G)) at (tag-moves (in-bounds-first G N) 0 f 0 (length G) (tag-back f 0 (f * 8) h l (omega arith) (omega arith)));
       holds = rw (a, ← length-append G N);
     }
 
@@ -108,16 +108,16 @@ single-bytes f d h l i =
     let N : List ℕ = varint (length d) in
     let H : List ℕ = G ++ N in
     let a : tagAt H 0 ≡ tag.Field f 2 (length G) =
-    rw (zero-add (length G)) at (tag-moves (lies-first G N) 0 f 2 (length G) (tag-back f 2 (f * 8 + 2) h l (omega arith) (omega arith))) in
+    rw (zero-add (length G)) at (tag-moves (in-bounds-first G N) 0 f 2 (length G) (tag-back f 2 (f * 8 + 2) h l (omega arith) (omega arith))) in
     let b : varintAt H (length G) ≡ Value (length d) (length H) =
-    rw (add-zero, ← length-append G N) at (varint-moves (lies-second G N) 9 0 (length d) (length N) (varint-back (length d) i)) in
+    rw (add-zero, ← length-append G N) at (varint-moves (in-bounds-second G N) 9 0 (length d) (length N) (varint-back (length d) i)) in
     let c : varintAt (H ++ d) (length G) ≡ Value (length d) (length H) =
-    rw (zero-add (length G), zero-add (length H)) at (varint-moves (lies-first H d) 9 (length G) (length d) (length H) b) in
+    rw (zero-add (length G), zero-add (length H)) at (varint-moves (in-bounds-first H d) 9 (length G) (length d) (length H) b) in
     let n : length (H ++ d) ≡ length H + length d = length-append H d in
     let j : length d ≤ length (H ++ d) - length H = omega arith in
     record {
       value = length G;
-      tagged = rw (zero-add (length G)) at (tag-moves (lies-first H d) 0 f 2 (length G) a);
+      tagged = rw (zero-add (length G)) at (tag-moves (in-bounds-first H d) 0 f 2 (length G) a);
       holds = rw (c, le-leb _ _ j, ← n);
     }
 
@@ -172,7 +172,7 @@ bytes-item f a s h =
 
 -- the bytes of the field f are those written
 pub held : (f : ℕ) (d : List ℕ) → part (head f (length d) ++ d) (length (head f (length d))) (length (head f (length d) ++ d)) ≡ d
-held f d = rw (length-append (head f (length d)) d) (lies-second (head f (length d)) d .same)
+held f d = rw (length-append (head f (length d)) d) (in-bounds-second (head f (length d)) d .same)
 
 module _ (f : ℕ) (h : 1 ≤ f) (l : f < 2 ^ 29) where
   pub number-back : (v : ℕ) → v < 2 ^ 64 → items (varint (f * 8) ++ varint v) ≡ number f v ∷ []

@@ -1,4 +1,4 @@
--- What a writer answers and what it leaves in the buffer. Document 01: "A writer gives its run's refusal, then 7, then 1 for a
+-- What a writer returns and what it leaves in the buffer. Document 01: "A writer gives its run's refusal, then 7, then 1 for a
 -- message too long, then 12", and "Readers and writers answer with the number and write nothing."
 use Prim.Native.Nat.{ℕ, _+_}
 use mathlib.Core.List.{List, _++_}

@@ -7,12 +7,12 @@ use lib.Dec.{ltb, eqb}
 use Rattle.base_laws.specs.Base.{pick}
 
 -- a varint of at most 1 + k bytes. Document 01: "the writer uses the shortest".
-unfoldable pub varintFrom : ℕ → ℕ → List ℕ
-varintFrom zero v = v ∷ []
-varintFrom (suc k) v = pick (ltb v 128) (v ∷ []) ((v % 128 + 128) ∷ varintFrom k (v / 128))
+unfoldable pub shortestFrom : ℕ → ℕ → List ℕ
+shortestFrom zero v = v ∷ []
+shortestFrom (suc k) v = pick (ltb v 128) (v ∷ []) ((v % 128 + 128) ∷ shortestFrom k (v / 128))
 
 abbrev pub varint : ℕ → List ℕ
-varint v = varintFrom 9 v
+varint v = shortestFrom 9 v
 
 -- the tag and the length before n bytes of the field f
 unfoldable pub head : ℕ → ℕ → List ℕ

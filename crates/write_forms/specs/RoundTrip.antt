@@ -1,5 +1,5 @@
 -- The round trip. Document 01: "What the writer writes reads back as the same values. Each message has one written form, a lent
--- run of entries apart". The written forms are those of Draft, the reading that of wire's Read and message's Message.
+-- run of entries apart". The written forms are those of Draft, the reading that of wire's Read and wire_message's Message.
 use Prim.Native.Nat.{ℕ, _+_, _-_, _^_, _≤_, _<_}
 use mathlib.Core.Path.{_≡_}
 use mathlib.Core.List.{List, [], _∷_, _++_, map}
@@ -77,7 +77,7 @@ abbrev pub AllSuit : ℕ → List Piece → Type 0
 AllSuit m [] = Unit
 AllSuit m (p ∷ ps) = Suits m p × AllSuit m ps
 
--- ---- drafts: what they have to keep, so that they read back. No range of document 01 is asked: values out of range are read as
+-- ---- drafts: what they have to keep, so that they read back. No range of document 01 is required: values out of range are read as
 -- well, and it is the ranges that refuse them, with 7.
 
 -- numbers of 64 bits: a varint holds no more

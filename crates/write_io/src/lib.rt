@@ -1,5 +1,5 @@
 // The writers of the messages that a session stores after its accept: I/O buffers, window sizes, suspends and exits. How a writer is
-// called and what it answers stands in `client_writer`, which has those of the other members of a ClientMessage.
+// called and what it returns stands in `write_client`, which has those of the other members of a ClientMessage.
 use write_message::fits::both;
 use write_message::fits::flag;
 use write_message::fits::member_in;
@@ -12,9 +12,15 @@ ghost use mathlib.Core.Path.{_≡_};
 ghost use lib.ListN.{length};
 ghost use Rattle.write_forms.specs.Draft.{exitPieces, timedPieces, windowPieces, wrapped};
 ghost use Rattle.write_forms.specs.Outcome.{buffer};
-ghost use Rattle.write_pieces.specs.Put.{stamp};
+ghost use Rattle.write_pieces.specs.Parts.{stamp};
 ghost use Rattle.write_message.specs.Fits.{exitFits, ioFits, windowFits, suspendFits};
 ghost use Rattle.write_message.specs.Wrote.{wrote};
+
+const EXIT_VALUE_LIMIT: u64 = 255;
+
+const WINDOW_LIMIT: u64 = 65535;
+
+const SIGNAL_LIMIT: usize = 127;
 
 // An ExitMessage, member 3.
 pub fn write_exit(
@@ -31,7 +37,10 @@ pub fn write_exit(
     ensures answer { λ r. ⌜ r ≡ wrote 0 (exitFits member (stamp seconds nanos) «exit_value» (now (signal .entry))) framed (wrapped member (exitPieces (stamp seconds nanos) «exit_value» «dumped_core» (now (signal .entry)) (now (error .entry)))) (length (now (out .entry))) ⌝ }
     ensures buffer { λ r. ⌜ now (out .exit) ≡ buffer 0 (exitFits member (stamp seconds nanos) «exit_value» (now (signal .entry))) framed (wrapped member (exitPieces (stamp seconds nanos) «exit_value» «dumped_core» (now (signal .entry)) (now (error .entry)))) (now (out .entry)) ⌝ }
 {
-    let values = both(exit_value <= 255, sized(0, 127, signal));
+    let values = both(
+        exit_value <= EXIT_VALUE_LIMIT,
+        sized(0, SIGNAL_LIMIT, signal),
+    );
     let fits = both(
         member_in(3, 3, member),
         both(moment_fits(seconds, nanos), values),
@@ -86,7 +95,7 @@ pub fn write_window_size(
         member_in(11, 11, member),
         both(
             moment_fits(seconds, nanos),
-            both(rows <= 65535, cols <= 65535),
+            both(rows <= WINDOW_LIMIT, cols <= WINDOW_LIMIT),
         ),
     );
     let p = timed(1, seconds, nanos, rows, cols);
@@ -107,7 +116,7 @@ pub fn write_suspend(
 {
     let fits = both(
         member_in(12, 12, member),
-        both(moment_fits(seconds, nanos), sized(1, 127, signal)),
+        both(moment_fits(seconds, nanos), sized(1, SIGNAL_LIMIT, signal)),
     );
     let p = timed(1, seconds, nanos, 0, 0);
     write_plain(0, fits, member, p, &[], signal, &[], &[], &[], framed, out)

@@ -1,4 +1,4 @@
-// The writers of lists by themselves: a StringList and a NumberList. How a writer is called and what it answers stands in `client_writer`.
+// The writers of lists by themselves: a StringList and a NumberList. How a writer is called and what it returns stands in `write_client`.
 use write_lists::ends_fit;
 use write_message::form::listed;
 use write_message::outcome::Wrote;

@@ -13,8 +13,9 @@ use Rattle.base_laws.specs.Base.{pick, part}
 use Rattle.base_laws.proofs.Parts.{length-part}
 use Rattle.write_forms.specs.Pieces.{head, elements}
 use Rattle.write_forms.specs.Draft.{cutAt, badEnds}
-use Rattle.write_pieces.specs.Put.{Put, Like, exact, beyond}
-use Rattle.write_pieces.proofs.Puts.{then, Filling, fill-room, fill-more, fill-end}
+use Rattle.base_copy.specs.Put.{Put}
+use Rattle.write_pieces.specs.Parts.{Like, exact, beyond}
+use Rattle.base_copy.proofs.Puts.{then, Filling, fill-room, fill-more, fill-end}
 
 pub next-drop : (ends : List ℕ) (i : ℕ) → i < length ends → drop i ends ≡ getD ends i 0 ∷ drop (i + 1) ends
 next-drop ends i h = drop-cons ends i 0 h ∙ ap (λ (n : ℕ). getD ends i 0 ∷ drop n ends) (sym (add-one i))

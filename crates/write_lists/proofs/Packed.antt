@@ -5,7 +5,7 @@ use native.Mathlib.Omega.{arith}
 use mathlib.Core.List.{List, [], _++_}
 use lib.ListN.{length, drop, getD, length-append, drop-of-length-le}
 use Rattle.write_forms.specs.Pieces.{varint, packed}
-use Rattle.write_pieces.specs.Put.{Like, exact, beyond}
+use Rattle.write_pieces.specs.Parts.{Like, exact, beyond}
 use Rattle.write_lists.proofs.Lists.{next-drop}
 
 module _ (vs : List ℕ) (i : ℕ) where

@@ -1,16 +1,19 @@
 // Lists of strings, lent as joined bytes and ends, and packed numbers.
+use base_copy::put_raw;
 use write_pieces::number::len_varint;
 use write_pieces::number::put_varint;
+use write_pieces::part::MESSAGE_LIMIT;
+use write_pieces::part::TOO_LONG;
 use write_pieces::part::len_head;
 use write_pieces::part::put_head;
-use write_pieces::part::put_raw;
 ghost use mathlib.Core.Path.{_≡_};
 ghost use Prim.Native.Nat.{_+_, _≤_};
 ghost use mathlib.Core.Bool.{false, not};
 ghost use lib.ListN.{length};
 ghost use Rattle.write_forms.specs.Pieces.{elements, text, encode, packed};
 ghost use Rattle.write_forms.specs.Draft.{cutAt, badEnds};
-ghost use Rattle.write_pieces.specs.Put.{Put, Like};
+ghost use Rattle.base_copy.specs.Put.{Put};
+ghost use Rattle.write_pieces.specs.Parts.{Like};
 
 // Are the ends of a list's elements good: they don't fall, and the last one is the size of the joined bytes.
 pub fn ends_fit(size: usize, ends: &[usize]) -> bool
@@ -38,12 +41,12 @@ pub fn len_list(f: u8, joined: &[u8], ends: &[usize]) -> usize
     let mut i: usize = 0;
     while i < ends.len() {
         let e = ends[i];
-        if 2_097_152 < e - a {
-            return 2_097_153;
+        if MESSAGE_LIMIT < e - a {
+            return TOO_LONG;
         }
         n += len_head(f, e - a) + (e - a);
-        if 2_097_152 < n {
-            return 2_097_153;
+        if MESSAGE_LIMIT < n {
+            return TOO_LONG;
         }
         a = e;
         i += 1;
@@ -78,8 +81,8 @@ fn len_packed(numbers: &[u64]) -> usize
     let mut i: usize = 0;
     while i < numbers.len() {
         n += len_varint(numbers[i]);
-        if 2_097_152 < n {
-            return 2_097_153;
+        if MESSAGE_LIMIT < n {
+            return TOO_LONG;
         }
         i += 1;
     }

@@ -5,8 +5,9 @@ use native.Mathlib.Omega.{arith}
 use mathlib.Core.List.{List, [], _∷_, _++_, append-assoc}
 use lib.ListN.{length, length-append}
 use Rattle.write_forms.specs.Pieces.{Piece, run, encode, encodeAll}
-use Rattle.write_pieces.specs.Put.{Put, Like, exact, cover, around}
-use Rattle.write_pieces.proofs.Puts.{then, put-length}
+use Rattle.base_copy.specs.Put.{Put}
+use Rattle.write_pieces.specs.Parts.{Like, exact, cover, around}
+use Rattle.base_copy.proofs.Puts.{then, put-length}
 use Rattle.write_pieces.proofs.Lengths.{like-append, like-around, like-exact, like-within}
 
 pub like-piece : {n : ℕ} (p : Piece) → n ≡ length (encode p) → Like n (encode p)

@@ -11,10 +11,11 @@ use Rattle.base_laws.specs.Base.{pick}
 use Rattle.write_forms.specs.Pieces.{Piece, bytes, head, encode, encodeAll, front}
 use Rattle.write_forms.specs.Draft.{wrapped}
 use Rattle.write_forms.specs.Outcome.{roomRefusal, refusal, size, buffer}
-use Rattle.write_pieces.specs.Put.{Put, Like, exact, beyond, cover, around}
-use Rattle.write_pieces.proofs.Puts.{then}
+use Rattle.base_copy.specs.Put.{Put}
+use Rattle.write_pieces.specs.Parts.{Like, exact, beyond, cover, around}
+use Rattle.base_copy.proofs.Puts.{then}
 use Rattle.write_pieces.proofs.Lengths.{like-exact, like-around}
-use Rattle.write_message.specs.Wrote.{wrote, Outcome}
+use Rattle.write_message.specs.Wrote.{wrote, WriteOutcome}
 use Rattle.write_message.specs.declared.outcome.Wrote.{Wrote}
 
 -- ---- the message as a field of the message around it
@@ -90,7 +91,7 @@ unfolding refusal buffer
 unfit-buffer r framed m m' out = rw (never r)
 
 -- the same by equal arguments; the message counts only where the values are in range
-pub same-outcome : {r : ℕ} {fits framed : Bool} {m out : List ℕ} {w : Wrote} {out' : List ℕ} → Outcome r fits framed m out w out'
+pub same-outcome : {r : ℕ} {fits framed : Bool} {m out : List ℕ} {w : Wrote} {out' : List ℕ} → WriteOutcome r fits framed m out w out'
     → (r' : ℕ) (fits' : Bool) (m' : List ℕ) → r ≡ r' → fits ≡ fits' → (fits' ≡ true → m ≡ m')
     → (w ≡ wrote r' fits' framed m' (length out)) × (out' ≡ buffer r' fits' framed m' out)
 same-outcome h r' true m' e f g = (rw (e, f, g refl) at (h .answer), rw (e, f, g refl) at (h .leaves))
@@ -106,25 +107,25 @@ in-range r fits framed m room e f = rw (eq-eqb r 0 e, f)
 
 module _ {r : ℕ} {fits framed : Bool} {m out : List ℕ} where
   refused : {q : ℕ} → refusal r fits framed m (length out) ≡ q → (q ≡ 0 → ⊥)
-      → Outcome r fits framed m out (record { refusal = q; size = 0 }) out
+      → WriteOutcome r fits framed m out (record { refusal = q; size = 0 }) out
   unfolding size buffer
   refused {q} e z = record { answer = rw (e, ne-eqb q 0 z); leaves = rw (e, ne-eqb q 0 z) }
 
-  pub run-refused : (r ≡ 0 → ⊥) → Outcome r fits framed m out (record { refusal = r; size = 0 }) out
+  pub run-refused : (r ≡ 0 → ⊥) → WriteOutcome r fits framed m out (record { refusal = r; size = 0 }) out
   unfolding refusal
   run-refused h = refused (rw (ne-eqb r 0 h)) h
 
-  pub out-of-range : r ≡ 0 → fits ≡ false → Outcome r fits framed m out (record { refusal = 7; size = 0 }) out
+  pub out-of-range : r ≡ 0 → fits ≡ false → WriteOutcome r fits framed m out (record { refusal = 7; size = 0 }) out
   unfolding refusal
   out-of-range e f = refused (rw (eq-eqb r 0 e, f)) (λ h. omega arith)
 
   pub no-room : {n q : ℕ} → r ≡ 0 → fits ≡ true → Like n m → q ≡ roomRefusal framed n (length out) → (q ≡ 0 → ⊥)
-      → Outcome r fits framed m out (record { refusal = q; size = 0 }) out
+      → WriteOutcome r fits framed m out (record { refusal = q; size = 0 }) out
   no-room e f l h z = refused (in-range r fits framed m (length out) e f ∙ sym (room-like framed (length out) l) ∙ sym h) z
 
   pub written : {n q a size' : ℕ} {s out' : List ℕ} → r ≡ 0 → fits ≡ true → Like n m → q ≡ roomRefusal framed n (length out) → q ≡ 0
       → Put out 0 (front framed n) s a → Put s a m out' size'
-      → Outcome r fits framed m out (record { refusal = 0; size = size' }) out'
+      → WriteOutcome r fits framed m out (record { refusal = 0; size = size' }) out'
   unfolding size buffer
   written {n} {q} {a} {size'} {s} {out'} e f l h z p w =
       let none : refusal r fits framed m (length out) ≡ 0 = in-range r fits framed m (length out) e f ∙ sym (room-like framed (length out) l) ∙ sym h ∙ z in

@@ -8,7 +8,7 @@ use mathlib.Core.Bool.{Bool, false}
 use Rattle.wire_message.specs.Message.{Bytes}
 use Rattle.write_forms.specs.Pieces.{Piece, some, text, run, elements, encode, packed}
 use Rattle.write_forms.specs.Draft.{cutAt}
-use Rattle.write_pieces.specs.Put.{numberPiece, timePiece, stamp, around}
+use Rattle.write_pieces.specs.Parts.{numberPiece, timePiece, stamp, around}
 use Rattle.write_message.specs.declared.form.Form.{Form}
 
 abbrev pub timedForm : ℕ → ℕ → ℕ → ℕ → ℕ → Form

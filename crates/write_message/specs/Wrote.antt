@@ -1,4 +1,4 @@
--- What a writer answers, in the struct of the code.
+-- What a writer returns, in the struct of the code.
 use Prim.Native.Nat.{ℕ}
 use mathlib.Core.Path.{_≡_}
 use mathlib.Core.List.{List}
@@ -12,6 +12,6 @@ abbrev pub wrote : ℕ → Bool → Bool → List ℕ → ℕ → Wrote
 wrote r fits framed m room = record { refusal = refusal r fits framed m room; size = size r fits framed m room }
 
 -- the answer w, and the buffer before and after
-pub record Outcome (r : ℕ) (fits framed : Bool) (m out : List ℕ) (w : Wrote) (out' : List ℕ) : Type 0 where
+pub record WriteOutcome (r : ℕ) (fits framed : Bool) (m out : List ℕ) (w : Wrote) (out' : List ℕ) : Type 0 where
   pub answer : w ≡ wrote r fits framed m (length out)
   pub leaves : out' ≡ buffer r fits framed m out

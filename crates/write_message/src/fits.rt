@@ -2,9 +2,13 @@
 ghost use mathlib.Core.Path.{_≡_};
 ghost use Rattle.base_laws.specs.Base;
 ghost use Rattle.write_forms.specs.Draft;
-ghost use Rattle.write_pieces.specs.Put.{stamp};
+ghost use Rattle.write_pieces.specs.Parts.{stamp};
 ghost use Rattle.write_message.specs.Fits;
 ghost use Rattle.write_message.specs.Fits.{memberIn, dateFits, momentFits};
+
+const NANOS_LIMIT: u64 = 999999999;
+
+const SECONDS_LIMIT: u64 = 4294967295;
 
 pub fn both(a: bool, b: bool) -> bool
     ensures { λ r. ⌜ r ≡ Base.both a b ⌝ }
@@ -27,13 +31,13 @@ pub fn member_in(lo: u64, hi: u64, member: u64) -> bool
 pub fn date_fits(seconds: u64, nanos: u64) -> bool
     ensures { λ r. ⌜ r ≡ dateFits (stamp seconds nanos) ⌝ }
 {
-    nanos <= 999999999
+    nanos <= NANOS_LIMIT
 }
 
 pub fn moment_fits(seconds: u64, nanos: u64) -> bool
     ensures { λ r. ⌜ r ≡ momentFits (stamp seconds nanos) ⌝ }
 {
-    both(seconds <= 4294967295, date_fits(seconds, nanos))
+    both(seconds <= SECONDS_LIMIT, date_fits(seconds, nanos))
 }
 
 pub fn sized(lo: usize, hi: usize, d: &[u8]) -> bool

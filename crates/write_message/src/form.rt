@@ -1,5 +1,6 @@
 // The one form from which every message is written: its fields at each number, in rising number. What a message does not have
 // is left out by its value: a number that is 0, no bytes, the field number 0.
+use base_copy::put_raw;
 use write_lists::len_list;
 use write_lists::len_numbers;
 use write_lists::put_list;
@@ -11,7 +12,6 @@ use write_pieces::part::len_raw;
 use write_pieces::part::len_text;
 use write_pieces::part::len_time;
 use write_pieces::part::put_cover;
-use write_pieces::part::put_raw;
 use write_pieces::part::put_text;
 use write_pieces::part::put_time;
 ghost use mathlib.Core.Path.{_≡_};
@@ -21,7 +21,8 @@ ghost use lib.ListN.{length};
 ghost use Rattle.wire_message.specs.Message.{Bytes};
 ghost use Rattle.write_forms.specs.Pieces.{encodeAll};
 ghost use Rattle.write_forms.specs.Draft.{badEnds};
-ghost use Rattle.write_pieces.specs.Put.{Put, Like};
+ghost use Rattle.base_copy.specs.Put.{Put};
+ghost use Rattle.write_pieces.specs.Parts.{Like};
 ghost use Rattle.write_message.specs.Form.{timedForm, numberedForm, listedForm, firstPieces, middle, lastPieces, formPieces};
 
 pub struct Form {

@@ -5,6 +5,7 @@ use crate::form::len_form;
 use crate::form::len_middle;
 use crate::form::put_form;
 use crate::outcome::Wrote;
+use write_pieces::part::MESSAGE_LIMIT;
 use write_pieces::part::len_cover;
 use write_pieces::part::len_front;
 use write_pieces::part::put_cover;
@@ -16,13 +17,13 @@ ghost use lib.ListN.{length};
 ghost use Rattle.write_forms.specs.Draft.{badEnds, wrapped};
 ghost use Rattle.write_forms.specs.Outcome.{roomRefusal};
 ghost use Rattle.write_message.specs.Form.{middle, formPieces};
-ghost use Rattle.write_message.specs.Wrote.{Outcome};
+ghost use Rattle.write_message.specs.Wrote.{WriteOutcome};
 
 // The refusal of a message of n bytes: 1 where it is too long, 12 where it and its frame have no room.
 fn room_refusal(framed: bool, n: usize, room: usize) -> u8
     ensures { λ r. ⌜ r ≡ roomRefusal framed n room ⌝ }
 {
-    if 2_097_152 < n {
+    if MESSAGE_LIMIT < n {
         return 1;
     }
     if room < len_front(framed) + n {
@@ -48,7 +49,7 @@ pub fn write_message(
     out: &mut [u8],
 ) -> Wrote
     requires { ⌜ (fits ≡ true → member < 256) × (fits ≡ true → badEnds (length (now joined)) 0 (now ends) ≡ false) ⌝ }
-    ensures { λ r. ⌜ Outcome run fits framed (wrapped member (formPieces p (now (t1 .entry)) (now (t2 .entry)) (middle (p .list) (now (joined .entry)) (now (ends .entry)) (now (numbers .entry)) (now (d .entry))) (now (t4 .entry)) (now (t5 .entry)))) (now (out .entry)) r (now (out .exit)) ⌝ }
+    ensures { λ r. ⌜ WriteOutcome run fits framed (wrapped member (formPieces p (now (t1 .entry)) (now (t2 .entry)) (middle (p .list) (now (joined .entry)) (now (ends .entry)) (now (numbers .entry)) (now (d .entry))) (now (t4 .entry)) (now (t5 .entry)))) (now (out .entry)) r (now (out .exit)) ⌝ }
 {
     if run != 0 {
         return Wrote {
@@ -91,7 +92,7 @@ pub fn write_plain(
     out: &mut [u8],
 ) -> Wrote
     requires { ⌜ (fits ≡ true → member < 256) ⌝ }
-    ensures { λ r. ⌜ Outcome run fits framed (wrapped member (formPieces p (now (t1 .entry)) (now (t2 .entry)) (now (d .entry)) (now (t4 .entry)) (now (t5 .entry)))) (now (out .entry)) r (now (out .exit)) ⌝ }
+    ensures { λ r. ⌜ WriteOutcome run fits framed (wrapped member (formPieces p (now (t1 .entry)) (now (t2 .entry)) (now (d .entry)) (now (t4 .entry)) (now (t5 .entry)))) (now (out .entry)) r (now (out .exit)) ⌝ }
 {
     write_message(
         run,

@@ -9,7 +9,7 @@ use lib.Dec.{eqb}
 use borrow.Author.Tests.{eq-eqb, ne-eqb, eqb-true, eqb-false}
 use Rattle.write_forms.specs.Pieces.{some, text, encode, varint, head}
 use Rattle.write_forms.specs.Draft.{Stamp, time}
-use Rattle.write_pieces.specs.Put.{numberPiece, leftOut, timePiece, cover}
+use Rattle.write_pieces.specs.Parts.{numberPiece, leftOut, timePiece, cover}
 
 -- ---- numbers
 

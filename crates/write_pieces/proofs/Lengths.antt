@@ -5,7 +5,7 @@ use native.Mathlib.Omega.{arith}
 use mathlib.Core.List.{List, [], _++_}
 use lib.ListN.{length, length-append}
 use Rattle.write_forms.specs.Pieces.{head, text, encode}
-use Rattle.write_pieces.specs.Put.{Like, exact, beyond, cover, around}
+use Rattle.write_pieces.specs.Parts.{Like, exact, beyond, cover, around}
 use Rattle.write_pieces.proofs.Fields.{text-none, text-least, length-text}
 
 pub like-exact : {n : ℕ} {xs : List ℕ} → Like n xs → n ≤ 2097152 → n ≡ length xs

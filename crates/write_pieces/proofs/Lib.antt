@@ -1,4 +1,4 @@
-pub mod Puts
+pub mod Room
 pub mod Lengths
 pub mod Varints
 pub mod Fields

@@ -8,42 +8,42 @@ use lib.ListN.{length, set}
 use lib.Dec.{ltb, lit≤}
 use borrow.Author.Tests.{lt-ltb, le-ltb}
 use Rattle.base_laws.specs.Base.{pick}
-use Rattle.write_forms.specs.Pieces.{varintFrom, varint}
-use Rattle.write_pieces.specs.Put.{Put}
-use Rattle.write_pieces.proofs.Puts.{put-byte, Filling, fill-start, fill-more, fill-end}
+use Rattle.write_forms.specs.Pieces.{shortestFrom, varint}
+use Rattle.base_copy.specs.Put.{Put}
+use Rattle.base_copy.proofs.Puts.{put-byte, Filling, fill-start, fill-more, fill-end}
 
 -- the values of a varint of at most 1 + k bytes are below this
 unfoldable pub lim : ℕ → ℕ
 lim zero = 2
 lim (suc k) = 128 * lim k
 
-short : (k v : ℕ) → v < 128 → varintFrom k v ≡ v ∷ []
-unfolding varintFrom
+short : (k v : ℕ) → v < 128 → shortestFrom k v ≡ v ∷ []
+unfolding shortestFrom
 short zero v h = refl
 short (suc k) v h = simp (lt-ltb _ _ h)
 
-long : (k v : ℕ) → 128 ≤ v → varintFrom (suc k) v ≡ (v % 128 + 128) ∷ varintFrom k (v / 128)
-unfolding varintFrom
+long : (k v : ℕ) → 128 ≤ v → shortestFrom (suc k) v ≡ (v % 128 + 128) ∷ shortestFrom k (v / 128)
+unfolding shortestFrom
 long k v h = simp (le-ltb _ _ h)
 
 -- a value that goes on: one byte, and a shorter varint of what is left
 record Longer (k v : ℕ) : Type 0 where
   pub less : ℕ
   pub below : v / 128 < lim less
-  pub same : varintFrom k v ≡ (v % 128 + 128) ∷ varintFrom less (v / 128)
+  pub same : shortestFrom k v ≡ (v % 128 + 128) ∷ shortestFrom less (v / 128)
 
 longer : (k v : ℕ) → v < lim k → 128 ≤ v → Longer k v
 unfolding lim
 longer zero v h l = absurd (omega arith)
 longer (suc k) v h l = record { less = k; below = omega arith; same = long k v l }
 
-pub length-varint : (k v : ℕ) → (1 ≤ length (varintFrom k v)) × (length (varintFrom k v) ≤ suc k)
-unfolding varintFrom
+pub length-varint : (k v : ℕ) → (1 ≤ length (shortestFrom k v)) × (length (shortestFrom k v) ≤ suc k)
+unfolding shortestFrom
 length-varint zero v = (lit≤ tt, lit≤ tt)
 length-varint (suc k) v = go (ltb v 128) (length-varint k (v / 128))
   where
-    go : (t : Bool) → (1 ≤ length (varintFrom k (v / 128))) × (length (varintFrom k (v / 128)) ≤ suc k)
-        → (1 ≤ length (pick t (v ∷ []) ((v % 128 + 128) ∷ varintFrom k (v / 128)))) × (length (pick t (v ∷ []) ((v % 128 + 128) ∷ varintFrom k (v / 128))) ≤ suc (suc k))
+    go : (t : Bool) → (1 ≤ length (shortestFrom k (v / 128))) × (length (shortestFrom k (v / 128)) ≤ suc k)
+        → (1 ≤ length (pick t (v ∷ []) ((v % 128 + 128) ∷ shortestFrom k (v / 128)))) × (length (pick t (v ∷ []) ((v % 128 + 128) ∷ shortestFrom k (v / 128))) ≤ suc (suc k))
     go true ih = (omega arith, omega arith)
     go false ih = (omega arith, omega arith)
 
@@ -52,7 +52,7 @@ length-varint (suc k) v = go (ltb v 128) (length-varint k (v / 128))
 pub record Counting (v x n : ℕ) : Type 0 where
   pub most : ℕ
   pub below : x < lim most
-  pub all : n + length (varintFrom most x) ≡ suc (length (varint v))
+  pub all : n + length (shortestFrom most x) ≡ suc (length (varint v))
 
 pub count-start : (v : ℕ) → v < 2 ^ 64 → Counting v v 1
 unfolding lim
@@ -74,7 +74,7 @@ count-end {v} {x} {n} p h =
 pub record Putting (s : List ℕ) (at v : ℕ) (s' : List ℕ) (x i : ℕ) : Type 0 where
   pub most : ℕ
   pub below : x < lim most
-  pub filling : Filling s at (varint v) s' i (varintFrom most x)
+  pub filling : Filling s at (varint v) s' i (shortestFrom most x)
 
 pub put-start : (s : List ℕ) (at v : ℕ) → v < 2 ^ 64 → Putting s at v s v at
 unfolding lim
@@ -90,7 +90,7 @@ module _ {s s' : List ℕ} {at v x i : ℕ} (p : Putting s at v s' x i) (room : 
       record {
         most = l .less;
         below = l .below;
-        filling = fill-more (p .filling) (varintFrom (l .less) (x / 128)) (l .same) (put-byte s' i (x % 128 + 128) put-room);
+        filling = fill-more (p .filling) (shortestFrom (l .less) (x / 128)) (l .same) (put-byte s' i (x % 128 + 128) put-room);
       }
 
   pub put-end : x < 128 → Put s at (varint v) (set s' i x) (i + 1)

@@ -3,7 +3,8 @@ ghost use mathlib.Core.Path.{_≡_};
 ghost use Prim.Native.Nat.{_+_, _≤_};
 ghost use lib.ListN.{length};
 ghost use Rattle.write_forms.specs.Pieces.{varint, encode};
-ghost use Rattle.write_pieces.specs.Put.{Put, numberPiece};
+ghost use Rattle.base_copy.specs.Put.{Put};
+ghost use Rattle.write_pieces.specs.Parts.{numberPiece};
 
 pub fn len_varint(v: u64) -> usize
     ensures { λ r. ⌜ (r ≡ length (varint v)) × (r ≤ 10) ⌝ }
@@ -34,7 +35,7 @@ pub fn put_varint(out: &mut [u8], at: usize, v: u64) -> usize
 
 // Is a number left out: where it is 0 and not always written.
 fn left_out(v: u64, always: bool) -> bool
-    ensures { λ r. ⌜ r ≡ Rattle.write_pieces.specs.Put.leftOut v always ⌝ }
+    ensures { λ r. ⌜ r ≡ Rattle.write_pieces.specs.Parts.leftOut v always ⌝ }
 {
     if always {
         return false;

@@ -3,13 +3,19 @@ use crate::number::len_number;
 use crate::number::len_varint;
 use crate::number::put_number;
 use crate::number::put_varint;
-use base_copy::copy_into;
+use base_copy::put_raw;
 ghost use mathlib.Core.Path.{_≡_};
 ghost use Prim.Native.Nat.{ℕ, _+_, _≤_};
 ghost use lib.ListN.{length};
 ghost use Rattle.write_forms.specs.Pieces.{head, text, encode, front};
 ghost use Rattle.write_forms.specs.Draft.{time};
-ghost use Rattle.write_pieces.specs.Put.{Put, Like, timePiece, cover, stamp};
+ghost use Rattle.base_copy.specs.Put.{Put};
+ghost use Rattle.write_pieces.specs.Parts.{Like, timePiece, cover, stamp};
+
+// The length of the longest message, and the length that stands for every greater one.
+pub const MESSAGE_LIMIT: usize = 2_097_152;
+
+pub const TOO_LONG: usize = 2_097_153;
 
 // The tag and the length before n bytes of a field.
 pub fn len_head(f: u8, n: usize) -> usize
@@ -46,19 +52,11 @@ pub fn put_cover(out: &mut [u8], at: usize, f: u8, n: usize) -> usize
     put_head(out, at, f, n)
 }
 
-pub fn put_raw(out: &mut [u8], at: usize, d: &[u8]) -> usize
-    requires { ⌜ at + length (now d) ≤ length (now out) ⌝ }
-    ensures { λ r. ⌜ Put (now (out .entry)) at (now (d .entry)) (now (out .exit)) r ⌝ }
-{
-    copy_into(out, at, d);
-    at + d.len()
-}
-
 pub fn len_raw(d: &[u8]) -> usize
     ensures { λ r. ⌜ (Like r (now (d .entry))) × (r ≤ 2097153) ⌝ }
 {
-    if 2_097_152 < d.len() {
-        return 2_097_153;
+    if MESSAGE_LIMIT < d.len() {
+        return TOO_LONG;
     }
     d.len()
 }
@@ -66,8 +64,8 @@ pub fn len_raw(d: &[u8]) -> usize
 pub fn len_text(f: u8, d: &[u8]) -> usize
     ensures { λ r. ⌜ (Like r (encode (text f (now (d .entry))))) × (r ≤ 2097173) ⌝ }
 {
-    if 2_097_152 < d.len() {
-        return 2_097_153;
+    if MESSAGE_LIMIT < d.len() {
+        return TOO_LONG;
     }
     if d.len() == 0 {
         return 0;

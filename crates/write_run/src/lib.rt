@@ -2,6 +2,7 @@
 use wire_check::check;
 use wire_check_field::Checked;
 use wire_range::limits::entries_fit;
+use wire_schema::INFO_MESSAGE;
 use wire_value::Payload;
 use wire_value::payload_at;
 use wire_varint::tag::Tag;
@@ -46,7 +47,7 @@ fn run_check(field: u64, s: &[u8]) -> Checked
             Payload::Fixed { next } => {
                 at = next;
             }
-            Payload::Part { start, end } => match check(11, &s[start..end]) {
+            Payload::Part { start, end } => match check(INFO_MESSAGE, &s[start..end]) {
                 Checked::Fine => {
                     at = end;
                 }

@@ -1,4 +1,4 @@
-// The writers of a ServerMessage's members, as in `client_writer`.
+// The writers of a ServerMessage's members, as in `write_client`.
 use write_lists::ends_fit;
 use write_message::fits::both;
 use write_message::fits::flag;
@@ -15,7 +15,7 @@ ghost use lib.ListN.{length};
 ghost use Rattle.write_forms.specs.Pieces.{bytes, encodeAll};
 ghost use Rattle.write_forms.specs.Draft.{timePieces, serverHelloPieces, cutAt, wrapped};
 ghost use Rattle.write_forms.specs.Outcome.{buffer};
-ghost use Rattle.write_pieces.specs.Put.{stamp};
+ghost use Rattle.write_pieces.specs.Parts.{stamp};
 ghost use Rattle.write_message.specs.Fits.{serverHelloFits, timeFits, noteFits};
 ghost use Rattle.write_message.specs.Wrote.{wrote};
 

@@ -1,12 +1,12 @@
--- The quotients and remainders are those of the definition `turned`: omega.
-use Rattle.base_numbers.specs.Eight.{turned}
+-- The quotients and remainders are those of the definition `byteSwapped`: omega.
+use Rattle.base_numbers.specs.Eight.{byteSwapped}
 use native.Mathlib.Omega.{arith}
 use borrow.Author.Needs.{needs}
 use Rattle.base_numbers.proofs.turned.Statement.{statement}
 use Rattle.base_numbers.proofs.turned.Tie as tie
 
 returns : tie.Need-returns
-unfolding turned
+unfolding byteSwapped
 returns c = omega arith
 
 pub turned-spec : {M : Type 1} → statement M

@@ -1,5 +1,5 @@
 use Prim.Native.Nat.{_-_}
-use Rattle.wire_fields.specs.declared.Span.{Span}
+use Rattle.wire_types.specs.declared.Span.{Span}
 use mathlib.Core.Path.{ap, _∙_}
 use borrow.Author.Needs.{needs}
 use Rattle.c_values.proofs.sudolog_length.Statement.{statement}

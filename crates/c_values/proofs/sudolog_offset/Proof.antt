@@ -1,5 +1,5 @@
 use mathlib.Core.Path.{ap}
-use Rattle.wire_fields.specs.declared.Span.{Span}
+use Rattle.wire_types.specs.declared.Span.{Span}
 use borrow.Author.Needs.{needs}
 use Rattle.c_values.proofs.sudolog_offset.Statement.{statement}
 use Rattle.c_values.proofs.sudolog_offset.Tie as tie

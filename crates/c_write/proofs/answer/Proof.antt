@@ -1,11 +1,11 @@
 use mathlib.Core.Path.{refl}
-use Rattle.c_write.specs.Answer.{answerOf}
+use Rattle.c_write.specs.Answer.{asNumber}
 use borrow.Author.Needs.{needs}
 use Rattle.c_write.proofs.answer.Statement.{statement}
 use Rattle.c_write.proofs.answer.Tie as tie
 
 returns : tie.Need-returns
-unfolding answerOf
+unfolding asNumber
 returns c = refl
 
 pub answer-spec : {M : Type 1} → statement M

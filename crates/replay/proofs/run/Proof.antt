@@ -1,4 +1,4 @@
-use Rattle.replay_window.specs.Window.{Within}
+use Rattle.replay_window.specs.Window.{FrameWithin}
 use Rattle.base_laws.proofs.Parts.{length-part}
 use Rattle.base_laws.specs.Base.{part}
 use lib.Seq.{length-take-le}
@@ -26,26 +26,26 @@ slice-aggregate-write-all c =
     (length-take-le (t .result .line) (t .last .1 .1 .1 .1 .0) (omega (arith, t .kept .1 .1 .1 .1 .0, t .ensures .1 .1 .1 .1 .1 .0)))
 
 add-from : tie.Need-add-from Inv-loop μ-loop
-unfolding Within
+unfolding FrameWithin
 add-from c =
     let at-next = c .before in
     let at-turn = at-next .before .before .before .before .before .before .before .before .before .before in
     let at-loop = at-turn .before .before .before .before .before .before in
     let at-start = at-loop .before .before .before .before .before in
     let w = at-loop .loop in
-    let h = subst (Within (length (part (w .window) (w .from) (w .held)))) (at-next .next .given .1)
+    let h = subst (FrameWithin (length (part (w .window) (w .from) (w .held)))) (at-next .next .given .1)
     (at-turn .turn .ensures .1 .1 .1 .1 .1 .1) in
     let l = length-part (w .window) (w .from) (w .held) (w .inv .0) (w .inv .1) in
     omega (arith, at-start .good .0 .0)
 
 loop-again : tie.Need-loop-again Inv-loop μ-loop
-unfolding Within
+unfolding FrameWithin
 loop-again c =
     let at-next = c .before in
     let at-turn = at-next .before .before .before .before .before .before .before .before .before .before in
     let at-loop = at-turn .before .before .before .before .before .before in
     let w = at-loop .loop in
-    let h = subst (Within (length (part (w .window) (w .from) (w .held)))) (at-next .next .given .1)
+    let h = subst (FrameWithin (length (part (w .window) (w .from) (w .held)))) (at-next .next .given .1)
     (at-turn .turn .ensures .1 .1 .1 .1 .1 .1) in
     let l = length-part (w .window) (w .from) (w .held) (w .inv .0) (w .inv .1) in
     (omega arith, w .inv .1, w .inv .2, omega arith, omega arith)

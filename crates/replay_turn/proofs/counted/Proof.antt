@@ -5,5 +5,5 @@ use Rattle.replay_turn.proofs.counted.Statement.{statement}
 use Rattle.replay_turn.proofs.counted.Tie as tie
 
 pub counted-spec : {M : Type 1} → statement M
-unfolding w.counted
+unfolding w.frameCounted
 counted-spec = tie.close (tie.spec (λ c. search needs) (λ c. search tests) (λ c. search tests))

@@ -1,13 +1,13 @@
-use Rattle.replay_text.specs.Names.{memberOf}
+use Rattle.replay_text.specs.Names.{shownMember}
 use Rattle.replay_lines.specs.Wording.{frameLine, written, lineLength}
-use Rattle.replay_turn.specs.Turn.{answered, counted}
+use Rattle.replay_turn.specs.Turn.{frameAnswer, frameCounted}
 use Rattle.session.specs.Step.{Outcome, outcome}
 use Rattle.base_laws.specs.Base.{part}
 use mathlib.Core.List.{List, []}
 use mathlib.Core.Path.{_≡_}
 use Prim.Native.Nat.{ℕ}
 use Rattle.replay_lines.proofs.Lines.{silent, same-line}
-use Rattle.replay_window.specs.Window.{Within}
+use Rattle.replay_window.specs.Window.{FrameWithin}
 use Rattle.replay_window.proofs.Cuts.{within}
 use Rattle.replay_turn.specs.Turn.{turned, byNext, handed}
 use lib.ListN.{length}
@@ -18,67 +18,67 @@ use Rattle.replay_turn.proofs.turn.Statement.{statement}
 use Rattle.replay_turn.proofs.turn.Tie as tie
 
 sub-message : tie.Need-sub-message
-unfolding Within
+unfolding FrameWithin
 sub-message c =
     let at-size = c .before .before in
     let at-decide = at-size .before .before in
     let a = at-decide .before .before .before .before .args in
-    let h = subst (Within (length (a .s .now))) (sym (at-decide .decide .ensures) ∙ at-size .size .given .1)
+    let h = subst (FrameWithin (length (a .s .now))) (sym (at-decide .decide .ensures) ∙ at-size .size .given .1)
     (within (a .s .now) (a .window)) in
     omega arith
 
 part-message-start : tie.Need-part-message-start
-unfolding Within
+unfolding FrameWithin
 part-message-start c =
     let at-size = c .before .before in
     let at-decide = at-size .before .before in
     let a = at-decide .before .before .before .before .args in
-    let h = subst (Within (length (a .s .now))) (sym (at-decide .decide .ensures) ∙ at-size .size .given .1)
+    let h = subst (FrameWithin (length (a .s .now))) (sym (at-decide .decide .ensures) ∙ at-size .size .given .1)
     (within (a .s .now) (a .window)) in
     omega arith
 
 part-message-end : tie.Need-part-message-end
-unfolding Within
+unfolding FrameWithin
 part-message-end c =
     let at-size = c .before .before in
     let at-decide = at-size .before .before in
     let a = at-decide .before .before .before .before .args in
-    let h = subst (Within (length (a .s .now))) (sym (at-decide .decide .ensures) ∙ at-size .size .given .1)
+    let h = subst (FrameWithin (length (a .s .now))) (sym (at-decide .decide .ensures) ∙ at-size .size .given .1)
     (within (a .s .now) (a .window)) in
     omega arith
 
 sub-frame-line : tie.Need-sub-frame-line
-unfolding Within
+unfolding FrameWithin
 sub-frame-line c =
     let at-size = c .before .before .before .before .before .before .before .before .before in
     let at-decide = at-size .before .before in
     let a = at-decide .before .before .before .before .args in
-    let h = subst (Within (length (a .s .now))) (sym (at-decide .decide .ensures) ∙ at-size .size .given .1)
+    let h = subst (FrameWithin (length (a .s .now))) (sym (at-decide .decide .ensures) ∙ at-size .size .given .1)
     (within (a .s .now) (a .window)) in
     omega arith
 
 part-frame-line-start : tie.Need-part-frame-line-start
-unfolding Within
+unfolding FrameWithin
 part-frame-line-start c =
     let at-size = c .before .before .before .before .before .before .before .before .before in
     let at-decide = at-size .before .before in
     let a = at-decide .before .before .before .before .args in
-    let h = subst (Within (length (a .s .now))) (sym (at-decide .decide .ensures) ∙ at-size .size .given .1)
+    let h = subst (FrameWithin (length (a .s .now))) (sym (at-decide .decide .ensures) ∙ at-size .size .given .1)
     (within (a .s .now) (a .window)) in
     omega arith
 
 part-frame-line-end : tie.Need-part-frame-line-end
-unfolding Within
+unfolding FrameWithin
 part-frame-line-end c =
     let at-size = c .before .before .before .before .before .before .before .before .before in
     let at-decide = at-size .before .before in
     let a = at-decide .before .before .before .before .args in
-    let h = subst (Within (length (a .s .now))) (sym (at-decide .decide .ensures) ∙ at-size .size .given .1)
+    let h = subst (FrameWithin (length (a .s .now))) (sym (at-decide .decide .ensures) ∙ at-size .size .given .1)
     (within (a .s .now) (a .window)) in
     omega arith
 
 returns : tie.Need-returns
-unfolding turned byNext Within
+unfolding turned byNext FrameWithin
 returns c =
     let at-decide = c .before .before in
     let a = at-decide .before .before .before .before .args in
@@ -100,17 +100,17 @@ returns-2 c =
     let m = at-message .message in
     let n = at-counted .counted in
     let l = at-frame-line .frame-line .ensures in
-    let o : Outcome = answered (a .re) (a .s .now) (a .area .now) size in
-    let f : ℕ = memberOf (part (a .s .now) 4 size) in
-    let same : frameLine (n .result) f (outcome (m .result) []) ≡ frameLine (counted (a .re .frames)) f o = same-line (n .result) f
+    let o : Outcome = frameAnswer (a .re) (a .s .now) (a .area .now) size in
+    let f : ℕ = shownMember (part (a .s .now) 4 size) in
+    let same : frameLine (n .result) f (outcome (m .result) []) ≡ frameLine (frameCounted (a .re .frames)) f o = same-line (n .result) f
     (m .result) [] (m .last .1 .1 .0)
     ∙ ap (frameLine (n .result) f) (m .ensures)
     ∙ ap (λ (k : ℕ). frameLine k f o) (n .ensures) in
     rw e
-    (λ i. record { session = m .ensures i .session; used = m .ensures i .used; frames = n .ensures i }, (refl, (ap (λ (x : Outcome). x .area) (m .ensures), (l .0 ∙ ap (λ (t : List ℕ). written t (a .out .now)) same, (l .1 .0 ∙ ap (λ (t : List ℕ). lineLength t (a .out .now)) same, (l .1 .1, subst (Within (length (a .s .now))) e (within (a .s .now) (a .window))))))))
+    (λ i. record { session = m .ensures i .session; used = m .ensures i .used; frames = n .ensures i }, (refl, (ap (λ (x : Outcome). x .area) (m .ensures), (l .0 ∙ ap (λ (t : List ℕ). written t (a .out .now)) same, (l .1 .0 ∙ ap (λ (t : List ℕ). lineLength t (a .out .now)) same, (l .1 .1, subst (FrameWithin (length (a .s .now))) e (within (a .s .now) (a .window))))))))
 
 returns-3 : tie.Need-returns-3
-unfolding turned byNext Within
+unfolding turned byNext FrameWithin
 returns-3 c =
     let at-end-line = c .before .before in
     let at-size2 = at-end-line .before .before .before in
@@ -121,7 +121,7 @@ returns-3 c =
     rw e (refl, (refl, (refl, (l .0, (l .1 .0, (l .1 .1, tt))))))
 
 returns-4 : tie.Need-returns-4
-unfolding turned byNext Within
+unfolding turned byNext FrameWithin
 returns-4 c =
     let at-end-line2 = c .before .before in
     let at-enum-told2 = at-end-line2 .before .before in

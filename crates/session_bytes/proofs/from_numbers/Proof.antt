@@ -1,5 +1,5 @@
 use mathlib.Core.Path.{sym, ap, _∙_}
-use Rattle.session_bytes.specs.Saved.{stateOf, fromNumbers}
+use Rattle.session_bytes.specs.Saved.{savedState, fromNumbers}
 use borrow.Author.Needs.{needs}
 use Rattle.session_bytes.proofs.from_numbers.Statement.{statement}
 use Rattle.session_bytes.proofs.from_numbers.Tie as tie
@@ -7,7 +7,7 @@ use Rattle.session_bytes.proofs.from_numbers.Tie as tie
 returns : tie.Need-returns
 unfolding fromNumbers
 returns c = let a = c .before .before .before .before .before .args in
-    let s = c .before .state-of .ensures ∙ ap stateOf (c .before .before .without-mark .ensures) in
+    let s = c .before .state-of .ensures ∙ ap savedState (c .before .before .without-mark .ensures) in
     let m = c .mark-of .ensures in
     rw (sym (c .before .before .before .before .are-session .ensures) ∙ c .before .before .before .if1 .taken) (λ i. record { state = s i; used = a .used; total = a .total; low = a .low; mark = m i })
 

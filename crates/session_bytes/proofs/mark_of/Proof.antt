@@ -1,14 +1,14 @@
 use borrow.Author.Tests.{le-leb, lt-leb}
-use Rattle.session_bytes.specs.Saved.{markOf}
+use Rattle.session_bytes.specs.Saved.{savedMark}
 use Rattle.session_bytes.proofs.mark_of.Statement.{statement}
 use Rattle.session_bytes.proofs.mark_of.Tie as tie
 
 returns : tie.Need-returns
-unfolding markOf
+unfolding savedMark
 returns c = rw (le-leb _ _ (c .if1 .taken))
 
 returns-2 : tie.Need-returns-2
-unfolding markOf
+unfolding savedMark
 returns-2 c = rw (lt-leb _ _ (c .if1 .left))
 
 pub mark-of-spec : {M : Type 1} → statement M

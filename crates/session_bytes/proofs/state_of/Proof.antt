@@ -1,26 +1,26 @@
 use borrow.Author.Tests.{eq-eqb, ne-eqb}
-use Rattle.session_bytes.specs.Saved.{stateOf}
+use Rattle.session_bytes.specs.Saved.{savedState}
 use Rattle.session_bytes.proofs.state_of.Statement.{statement}
 use Rattle.session_bytes.proofs.state_of.Tie as tie
 
 returns : tie.Need-returns
-unfolding stateOf
+unfolding savedState
 returns c = rw (eq-eqb _ _ (c .if1 .taken))
 
 returns-2 : tie.Need-returns-2
-unfolding stateOf
+unfolding savedState
 returns-2 c = rw (ne-eqb _ _ (c .before .if1 .left), eq-eqb _ _ (c .if2 .taken))
 
 returns-3 : tie.Need-returns-3
-unfolding stateOf
+unfolding savedState
 returns-3 c = rw (ne-eqb _ _ (c .before .before .if1 .left), ne-eqb _ _ (c .before .if2 .left), eq-eqb _ _ (c .if3 .taken))
 
 returns-4 : tie.Need-returns-4
-unfolding stateOf
+unfolding savedState
 returns-4 c = rw (ne-eqb _ _ (c .before .before .before .if1 .left), ne-eqb _ _ (c .before .before .if2 .left), ne-eqb _ _ (c .before .if3 .left), eq-eqb _ _ (c .if4 .taken))
 
 returns-5 : tie.Need-returns-5
-unfolding stateOf
+unfolding savedState
 returns-5 c = rw (ne-eqb _ _ (c .before .before .before .if1 .left), ne-eqb _ _ (c .before .before .if2 .left), ne-eqb _ _ (c .before .if3 .left), ne-eqb _ _ (c .if4 .left))
 
 pub state-of-spec : {M : Type 1} → statement M

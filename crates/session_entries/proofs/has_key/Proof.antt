@@ -3,20 +3,20 @@ use Rattle.wire_message.specs.Message.{Bytes}
 use native.Mathlib.Omega.{arith}
 use mathlib.Core.Path.{ap, _∙_}
 use Rattle.wire_message.specs.Message.{entry}
-use Rattle.wire_fields.proofs.Follow.{span-lies}
+use Rattle.wire_fields.proofs.Follow.{span-in-bounds}
 use Rattle.wire_fields.proofs.Items.{bytes-means}
 use borrow.Author.Needs.{needs}
 use Rattle.session_entries.proofs.has_key.Statement.{statement}
 use Rattle.session_entries.proofs.has_key.Tie as tie
 
 sub-is-key : tie.Need-sub-is-key
-sub-is-key c = let s = c .before .before .args .s .now in rw (c .part-in .ensures) (span-lies s 1 .0)
+sub-is-key c = let s = c .before .before .args .s .now in rw (c .part-in .ensures) (span-in-bounds s 1 .0)
 
 part-is-key-start : tie.Need-part-is-key-start
-part-is-key-start c = let s = c .before .before .args .s .now in rw (c .part-in .ensures) (let h = span-lies s 1 in omega arith)
+part-is-key-start c = let s = c .before .before .args .s .now in rw (c .part-in .ensures) (let h = span-in-bounds s 1 in omega arith)
 
 part-is-key-end : tie.Need-part-is-key-end
-part-is-key-end c = let s = c .before .before .args .s .now in rw (c .part-in .ensures) (let h = span-lies s 1 in omega arith)
+part-is-key-end c = let s = c .before .before .args .s .now in rw (c .part-in .ensures) (let h = span-in-bounds s 1 in omega arith)
 
 returns : tie.Need-returns
 unfolding entry

@@ -5,7 +5,7 @@ use mathlib.Core.Path.{_≡_, sym, _∙_}
 use lib.ListN.{length}
 use Rattle.wire_fields.specs.Items.{items}
 use Rattle.wire_message.specs.Message.{entries}
-use Rattle.wire_elements.proofs.Elements.{found-lies}
+use Rattle.wire_elements.proofs.Elements.{found-in-bounds}
 use Rattle.session_entries.specs.Required.{lastValue, stringOrNone}
 use Rattle.session_entries.proofs.Laws.{entriesAt, all-entries, entries-none, fitsFrom, fits-all}
 use borrow.Author.Needs.{needs}
@@ -23,35 +23,35 @@ loop-holds c = let a = c .before .args in rw (all-entries (a .field) (a .s .now)
 
 sub-has-key : tie.Need-sub-has-key Inv-loop μ-loop
 sub-has-key c = let a = c .before .before .before .before .before .before .args in
-    found-lies (a .field) (a .s .now) (c .before .before .before .before .loop .at) (sym (c .before .before .before .next-part .ensures) ∙ c .before .start .given .1) .1
+    found-in-bounds (a .field) (a .s .now) (c .before .before .before .before .loop .at) (sym (c .before .before .before .next-part .ensures) ∙ c .before .start .given .1) .1
 
 part-has-key-start : tie.Need-part-has-key-start Inv-loop μ-loop
 part-has-key-start c = let a = c .before .before .before .before .before .before .args in
-    let h = found-lies (a .field) (a .s .now) (c .before .before .before .before .loop .at) (sym (c .before .before .before .next-part .ensures) ∙ c .before .start .given .1) in
+    let h = found-in-bounds (a .field) (a .s .now) (c .before .before .before .before .loop .at) (sym (c .before .before .before .next-part .ensures) ∙ c .before .start .given .1) in
     omega arith
 
 part-has-key-end : tie.Need-part-has-key-end Inv-loop μ-loop
 part-has-key-end c = let a = c .before .before .before .before .before .before .args in
-    let h = found-lies (a .field) (a .s .now) (c .before .before .before .before .loop .at) (sym (c .before .before .before .next-part .ensures) ∙ c .before .start .given .1) in
+    let h = found-in-bounds (a .field) (a .s .now) (c .before .before .before .before .loop .at) (sym (c .before .before .before .next-part .ensures) ∙ c .before .start .given .1) in
     omega arith
 
 sub-has-string : tie.Need-sub-has-string Inv-loop μ-loop
 sub-has-string c = let a = c .before .before .before .before .before .before .before .before .before .args in
-    found-lies (a .field) (a .s .now) (c .before .before .before .before .before .before .before .loop .at) (sym (c .before .before .before .before .before .before .next-part .ensures) ∙ c .before .before .before .before .start .given .1) .1
+    found-in-bounds (a .field) (a .s .now) (c .before .before .before .before .before .before .before .loop .at) (sym (c .before .before .before .before .before .before .next-part .ensures) ∙ c .before .before .before .before .start .given .1) .1
 
 part-has-string-start : tie.Need-part-has-string-start Inv-loop μ-loop
 part-has-string-start c = let a = c .before .before .before .before .before .before .before .before .before .args in
-    let h = found-lies (a .field) (a .s .now) (c .before .before .before .before .before .before .before .loop .at) (sym (c .before .before .before .before .before .before .next-part .ensures) ∙ c .before .before .before .before .start .given .1) in
+    let h = found-in-bounds (a .field) (a .s .now) (c .before .before .before .before .before .before .before .loop .at) (sym (c .before .before .before .before .before .before .next-part .ensures) ∙ c .before .before .before .before .start .given .1) in
     omega arith
 
 part-has-string-end : tie.Need-part-has-string-end Inv-loop μ-loop
 part-has-string-end c = let a = c .before .before .before .before .before .before .before .before .before .args in
-    let h = found-lies (a .field) (a .s .now) (c .before .before .before .before .before .before .before .loop .at) (sym (c .before .before .before .before .before .before .next-part .ensures) ∙ c .before .before .before .before .start .given .1) in
+    let h = found-in-bounds (a .field) (a .s .now) (c .before .before .before .before .before .before .before .loop .at) (sym (c .before .before .before .before .before .before .next-part .ensures) ∙ c .before .before .before .before .start .given .1) in
     omega arith
 
 loop-less : tie.Need-loop-less Inv-loop μ-loop
 loop-less c = let a = c .before .before .before .before .before .before .before .before .before .before .before .args in
-    let h = found-lies (a .field) (a .s .now) (c .before .before .before .before .before .before .before .before .before .loop .at) (sym (c .before .before .before .before .before .before .before .before .next-part .ensures) ∙ c .before .before .before .before .before .before .start .given .1) in
+    let h = found-in-bounds (a .field) (a .s .now) (c .before .before .before .before .before .before .before .before .before .loop .at) (sym (c .before .before .before .before .before .before .before .before .next-part .ensures) ∙ c .before .before .before .before .before .before .start .given .1) in
     omega arith
 
 loop-again : tie.Need-loop-again Inv-loop μ-loop
@@ -62,7 +62,7 @@ loop-again c = let a = c .before .before .before .before .before .before .before
 
 loop-less-2 : tie.Need-loop-less-2 Inv-loop μ-loop
 loop-less-2 c = let a = c .before .before .before .before .before .before .before .before .before .args in
-    let h = found-lies (a .field) (a .s .now) (c .before .before .before .before .before .before .before .loop .at) (sym (c .before .before .before .before .before .before .next-part .ensures) ∙ c .before .before .before .before .start .given .1) in
+    let h = found-in-bounds (a .field) (a .s .now) (c .before .before .before .before .before .before .before .loop .at) (sym (c .before .before .before .before .before .before .next-part .ensures) ∙ c .before .before .before .before .start .given .1) in
     omega arith
 
 loop-again-2 : tie.Need-loop-again-2 Inv-loop μ-loop

@@ -5,7 +5,7 @@ use mathlib.Core.Bool.{true, false}
 use lib.ListN.{length}
 use Rattle.wire_fields.specs.Items.{items}
 use Rattle.wire_message.specs.Message.{entries}
-use Rattle.wire_elements.proofs.Elements.{found-lies}
+use Rattle.wire_elements.proofs.Elements.{found-in-bounds}
 use Rattle.session_entries.specs.Required.{has, missingFrom, missing}
 use Rattle.session_entries.proofs.Laws.{entriesAt, all-entries, entries-none, entries-next, found-key, not-found, all-found}
 use borrow.Author.Needs.{needs}
@@ -32,21 +32,21 @@ loop-holds c = let a = c .before .before .before .args in ap (has (c .before .ke
 
 sub-has-key : tie.Need-sub-has-key Inv-loop μ-loop Inv-keys μ-keys
 sub-has-key c = let a = c .before .before .before .before .before .before .before .before .args in
-    found-lies (a .field) (a .s .now) (c .before .before .before .before .loop .at) (sym (c .before .before .before .next-part .ensures) ∙ c .before .start .given .1) .1
+    found-in-bounds (a .field) (a .s .now) (c .before .before .before .before .loop .at) (sym (c .before .before .before .next-part .ensures) ∙ c .before .start .given .1) .1
 
 part-has-key-start : tie.Need-part-has-key-start Inv-loop μ-loop Inv-keys μ-keys
 part-has-key-start c = let a = c .before .before .before .before .before .before .before .before .args in
-    let h = found-lies (a .field) (a .s .now) (c .before .before .before .before .loop .at) (sym (c .before .before .before .next-part .ensures) ∙ c .before .start .given .1) in
+    let h = found-in-bounds (a .field) (a .s .now) (c .before .before .before .before .loop .at) (sym (c .before .before .before .next-part .ensures) ∙ c .before .start .given .1) in
     omega arith
 
 part-has-key-end : tie.Need-part-has-key-end Inv-loop μ-loop Inv-keys μ-keys
 part-has-key-end c = let a = c .before .before .before .before .before .before .before .before .args in
-    let h = found-lies (a .field) (a .s .now) (c .before .before .before .before .loop .at) (sym (c .before .before .before .next-part .ensures) ∙ c .before .start .given .1) in
+    let h = found-in-bounds (a .field) (a .s .now) (c .before .before .before .before .loop .at) (sym (c .before .before .before .next-part .ensures) ∙ c .before .start .given .1) in
     omega arith
 
 loop-less : tie.Need-loop-less Inv-loop μ-loop Inv-keys μ-keys
 loop-less c = let a = c .before .before .before .before .before .before .before .before .before .before .before .args in
-    let h = found-lies (a .field) (a .s .now) (c .before .before .before .before .before .before .before .loop .at) (sym (c .before .before .before .before .before .before .next-part .ensures) ∙ c .before .before .before .before .start .given .1) in
+    let h = found-in-bounds (a .field) (a .s .now) (c .before .before .before .before .before .before .before .loop .at) (sym (c .before .before .before .before .before .before .next-part .ensures) ∙ c .before .before .before .before .start .given .1) in
     omega arith
 
 loop-again : tie.Need-loop-again Inv-loop μ-loop Inv-keys μ-keys

@@ -9,7 +9,7 @@ use Rattle.wire_fields.proofs.Lengths.{found-part}
 use Rattle.wire_message.specs.Signed.{bool}
 use Rattle.session_fast_accept.specs.Summary.{EntrySeen, Summarised}
 use Rattle.session_fast_accept.proofs.KeyLaws.{all-are-met}
-use Rattle.session_fast_accept.proofs.Summaries.{part-lies, number-lies, part-item, number-item, Told, start, flagged, dated, entered, finish}
+use Rattle.session_fast_accept.proofs.Summaries.{part-in-bounds, number-in-bounds, part-item, number-item, Told, start, flagged, dated, entered, finish}
 use Rattle.session_fast_accept.proofs.summary_in.Statement.{statement}
 use Rattle.session_fast_accept.proofs.summary_in.Tie as tie
 
@@ -30,7 +30,7 @@ loop-less c = let q = c .before in
     let at = l .before .loop .at in
     let s = l .before .before .before .args .s .now in
     let h = sym (p .number-at .ensures) ∙ q .value .given .1 in
-    let z = number-lies s (at + 1) (omega arith) h in omega arith
+    let z = number-in-bounds s (at + 1) (omega arith) h in omega arith
 
 loop-again : tie.Need-loop-again Inv-loop μ-loop
 unfolding tagOf tagFits bool
@@ -63,7 +63,7 @@ sub-entry-seen c = let q = c .before .before in
     let at = l .before .loop .at in
     let s = l .before .before .before .args .s .now in
     let h = found-part s (at + 1) _ (p .part-found .ensures) _ _ (q .start .given .1) in
-    let z = part-lies s (at + 1) (omega arith) h in z .1
+    let z = part-in-bounds s (at + 1) (omega arith) h in z .1
 
 part-entry-seen-start : tie.Need-part-entry-seen-start Inv-loop μ-loop
 part-entry-seen-start c = let q = c .before .before in
@@ -73,7 +73,7 @@ part-entry-seen-start c = let q = c .before .before in
     let at = l .before .loop .at in
     let s = l .before .before .before .args .s .now in
     let h = found-part s (at + 1) _ (p .part-found .ensures) _ _ (q .start .given .1) in
-    let z = part-lies s (at + 1) (omega arith) h in omega arith
+    let z = part-in-bounds s (at + 1) (omega arith) h in omega arith
 
 part-entry-seen-end : tie.Need-part-entry-seen-end Inv-loop μ-loop
 part-entry-seen-end c = let q = c .before .before in
@@ -83,7 +83,7 @@ part-entry-seen-end c = let q = c .before .before in
     let at = l .before .loop .at in
     let s = l .before .before .before .args .s .now in
     let h = found-part s (at + 1) _ (p .part-found .ensures) _ _ (q .start .given .1) in
-    let z = part-lies s (at + 1) (omega arith) h in omega arith
+    let z = part-in-bounds s (at + 1) (omega arith) h in omega arith
 
 loop-less-2 : tie.Need-loop-less-2 Inv-loop μ-loop
 loop-less-2 c = let q = c .before .before .before .before .before .before .before in
@@ -93,7 +93,7 @@ loop-less-2 c = let q = c .before .before .before .before .before .before .befor
     let at = l .before .loop .at in
     let s = l .before .before .before .args .s .now in
     let h = found-part s (at + 1) _ (p .part-found .ensures) _ _ (q .start .given .1) in
-    let z = part-lies s (at + 1) (omega arith) h in omega arith
+    let z = part-in-bounds s (at + 1) (omega arith) h in omega arith
 
 loop-again-2 : tie.Need-loop-again-2 Inv-loop μ-loop
 unfolding tagOf tagFits
@@ -120,7 +120,7 @@ sub-date-seen c = let q = c .before .before .before in
     let at = l .before .loop .at in
     let s = l .before .before .before .args .s .now in
     let h = found-part s (at + 1) _ (p .part-found .ensures) _ _ (q .start .given .1) in
-    let z = part-lies s (at + 1) (omega arith) h in z .1
+    let z = part-in-bounds s (at + 1) (omega arith) h in z .1
 
 part-date-seen-start : tie.Need-part-date-seen-start Inv-loop μ-loop
 part-date-seen-start c = let q = c .before .before .before in
@@ -130,7 +130,7 @@ part-date-seen-start c = let q = c .before .before .before in
     let at = l .before .loop .at in
     let s = l .before .before .before .args .s .now in
     let h = found-part s (at + 1) _ (p .part-found .ensures) _ _ (q .start .given .1) in
-    let z = part-lies s (at + 1) (omega arith) h in omega arith
+    let z = part-in-bounds s (at + 1) (omega arith) h in omega arith
 
 part-date-seen-end : tie.Need-part-date-seen-end Inv-loop μ-loop
 part-date-seen-end c = let q = c .before .before .before in
@@ -140,7 +140,7 @@ part-date-seen-end c = let q = c .before .before .before in
     let at = l .before .loop .at in
     let s = l .before .before .before .args .s .now in
     let h = found-part s (at + 1) _ (p .part-found .ensures) _ _ (q .start .given .1) in
-    let z = part-lies s (at + 1) (omega arith) h in omega arith
+    let z = part-in-bounds s (at + 1) (omega arith) h in omega arith
 
 loop-less-3 : tie.Need-loop-less-3 Inv-loop μ-loop
 loop-less-3 c = let q = c .before .before .before .before .before .before in
@@ -150,7 +150,7 @@ loop-less-3 c = let q = c .before .before .before .before .before .before in
     let at = l .before .loop .at in
     let s = l .before .before .before .args .s .now in
     let h = found-part s (at + 1) _ (p .part-found .ensures) _ _ (q .start .given .1) in
-    let z = part-lies s (at + 1) (omega arith) h in omega arith
+    let z = part-in-bounds s (at + 1) (omega arith) h in omega arith
 
 loop-again-3 : tie.Need-loop-again-3 Inv-loop μ-loop
 unfolding tagOf tagFits

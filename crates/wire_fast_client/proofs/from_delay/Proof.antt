@@ -1,14 +1,14 @@
--- The delay lies in the buffer (Plains.delay-lies); with it and what data_at ensures the buffer is Plains.delay-data.
+-- The delay lies in the buffer (Plains.delay-in-bounds); with it and what data_at ensures the buffer is Plains.delay-data.
 use native.Mathlib.Omega.{arith}
 use mathlib.Core.Path.{subst, sym}
 use Rattle.wire_fast_client.specs.Plain.{IoSaid}
-use Rattle.wire_fast_client.proofs.Plains.{delay-lies, delay-data}
+use Rattle.wire_fast_client.proofs.Plains.{delay-in-bounds, delay-data}
 use borrow.Author.Needs.{needs}
 use Rattle.wire_fast_client.proofs.from_delay.Statement.{statement}
 use Rattle.wire_fast_client.proofs.from_delay.Tie as tie
 
 sub-plain-time : tie.Need-sub-plain-time
-sub-plain-time c = let pre = c .before .pre in delay-lies _ (pre .0) _ _ (pre .1) .0
+sub-plain-time c = let pre = c .before .pre in delay-in-bounds _ (pre .0) _ _ (pre .1) .0
 
 returns : tie.Need-returns
 returns c =
@@ -29,8 +29,8 @@ from-delay-spec =
     tie.close
     (tie.spec
     sub-plain-time
-    (λ c. let pre = c .before .pre in let lies = delay-lies _ (pre .0) _ _ (pre .1) in omega arith)
-    (λ c. let pre = c .before .pre in let lies = delay-lies _ (pre .0) _ _ (pre .1) in omega arith)
+    (λ c. let pre = c .before .pre in let lies = delay-in-bounds _ (pre .0) _ _ (pre .1) in omega arith)
+    (λ c. let pre = c .before .pre in let lies = delay-in-bounds _ (pre .0) _ _ (pre .1) in omega arith)
     (λ c κs. search needs)
     (λ c. search needs)
     (λ c κs. search needs)

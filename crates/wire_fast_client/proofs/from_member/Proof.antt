@@ -1,16 +1,16 @@
--- The member lies in the message (Plains.member-lies), its data too (member-within), and what plain_io found is Plains.member-io.
+-- The member is in bounds (Plains.member-in-bounds), its data too (member-within), and what plain_io found is Plains.member-io.
 use native.Mathlib.Omega.{arith}
 use Prim.Native.Nat.{_+_, _≤_}
 use lib.ListN.{length}
 use Rattle.wire_fast_client.specs.Plain.{ClientSaid}
-use Rattle.wire_fast_client.proofs.Plains.{member-lies, member-within, member-io}
+use Rattle.wire_fast_client.proofs.Plains.{member-in-bounds, member-within, member-io}
 use borrow.Author.Needs.{needs}
 use Rattle.wire_fast_client.proofs.from_member.Statement.{statement}
 use Rattle.wire_fast_client.proofs.from_member.Tie as tie
 
--- where the member lies
-lies : (c : tie.Start) → (c .args .start ≤ c .args .end) × (c .args .end ≤ length (c .args .s .now))
-lies c = member-lies _ _ (c .pre .0 .0) (c .pre .0 .1) _ _ (c .pre .1 .0)
+-- where the member is
+in-bounds : (c : tie.Start) → (c .args .start ≤ c .args .end) × (c .args .end ≤ length (c .args .s .now))
+in-bounds c = member-in-bounds _ _ (c .pre .0 .0) (c .pre .0 .1) _ _ (c .pre .1 .0)
 
 -- the places of the data are the message's
 within : (c : tie.After-seconds) →
@@ -23,10 +23,10 @@ within c =
     member-within _ _ (pre .0 .0) (pre .0 .1) _ _ (pre .1 .0) _ (at-io .plain-io .ensures) _ _ _ _ (c .seconds .given .1)
 
 sub-plain-io : tie.Need-sub-plain-io
-sub-plain-io c = lies (c .before) .0
+sub-plain-io c = in-bounds (c .before) .0
 
 part-plain-io-start : tie.Need-part-plain-io-start
-part-plain-io-start c = let h = lies (c .before) in omega arith
+part-plain-io-start c = let h = in-bounds (c .before) in omega arith
 
 add-t16 : tie.Need-add-t16
 add-t16 c = omega (arith, within (c .before) .0, c .before .before .before .before .before .before .good .0)

@@ -1,8 +1,8 @@
--- Both fields mean what the definition `timed` reads, Meaning.time-means and Items.bytes-means; Follow.span-lies for the places.
+-- Both fields mean what the definition `timed` reads, Meaning.time-means and Items.bytes-means; Follow.span-in-bounds for the places.
 use Rattle.wire_message.specs.Message.{timed}
 use Rattle.wire_message.specs.Places.{timedValue}
 use Rattle.wire_message.proofs.Meaning.{time-means}
-use Rattle.wire_fields.proofs.Follow.{span-lies}
+use Rattle.wire_fields.proofs.Follow.{span-in-bounds}
 use Rattle.wire_fields.proofs.Items.{bytes-means}
 use borrow.Author.Needs.{needs}
 use Rattle.wire_message.proofs.timed_in.Statement.{statement}
@@ -15,7 +15,7 @@ returns c =
     let at-start = at-time-in .before .before in
     let s = at-start .args .s .now in (
       rw (at-time-in .time-in .ensures, time-means 1 s, c .part-in .ensures, bytes-means s 2),
-      rw (c .part-in .ensures) (span-lies s 2),
+      rw (c .part-in .ensures) (span-in-bounds s 2),
     )
 
 pub timed-in-spec : {M : Type 1} → statement M

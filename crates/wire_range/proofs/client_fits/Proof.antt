@@ -1,27 +1,27 @@
--- The member that counts is what last_in answers: Items.last-is for what it means, Follow.part-lies for where it lies.
+-- The member that counts is what last_in answers: Items.last-is for what it means, Follow.part-in-bounds for where it lies.
 use Prim.Native.Nat.{_-_}
 use Rattle.wire_range.specs.Range.{clientFits, bodyFits}
 use native.Mathlib.Omega.{arith}
 use mathlib.Core.Path.{_≡_}
 use Rattle.wire_fields.proofs.Items.{last-is}
-use Rattle.wire_fields.proofs.Follow.{part-lies}
+use Rattle.wire_fields.proofs.Follow.{part-in-bounds}
 use borrow.Author.Needs.{needs}
 use Rattle.wire_range.proofs.client_fits.Statement.{statement}
 use Rattle.wire_range.proofs.client_fits.Tie as tie
 
 sub-body-fits : tie.Need-sub-body-fits
-sub-body-fits c = let at-number = c .before .before .before in part-lies _ 1 13 (at-number .before .before .last-in .ensures) (at-number .number .given .1) .0
+sub-body-fits c = let at-number = c .before .before .before in part-in-bounds _ 1 13 (at-number .before .before .last-in .ensures) (at-number .number .given .1) .0
 
 part-body-fits-start : tie.Need-part-body-fits-start
 part-body-fits-start c =
     let at-number = c .before .before .before in
-    let lies = part-lies _ 1 13 (at-number .before .before .last-in .ensures) (at-number .number .given .1) in
+    let lies = part-in-bounds _ 1 13 (at-number .before .before .last-in .ensures) (at-number .number .given .1) in
     omega arith
 
 part-body-fits-end : tie.Need-part-body-fits-end
 part-body-fits-end c =
     let at-number = c .before .before .before in
-    let lies = part-lies _ 1 13 (at-number .before .before .last-in .ensures) (at-number .number .given .1) in
+    let lies = part-in-bounds _ 1 13 (at-number .before .before .last-in .ensures) (at-number .number .given .1) in
     omega arith
 
 returns : tie.Need-returns

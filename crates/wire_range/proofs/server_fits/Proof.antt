@@ -1,26 +1,26 @@
--- The member that counts is what last_in answers: Items.last-is for what it means, Follow.part-lies for where it lies.
+-- The member that counts is what last_in answers: Items.last-is for what it means, Follow.part-in-bounds for where it lies.
 use borrow.Author.Tests.{eq-eqb, ne-eqb}
 use Rattle.wire_range.specs.Range.{serverFits}
 use native.Mathlib.Omega.{arith}
 use Rattle.wire_fields.proofs.Items.{last-is}
-use Rattle.wire_fields.proofs.Follow.{part-lies}
+use Rattle.wire_fields.proofs.Follow.{part-in-bounds}
 use borrow.Author.Needs.{needs}
 use Rattle.wire_range.proofs.server_fits.Statement.{statement}
 use Rattle.wire_range.proofs.server_fits.Tie as tie
 
 sub-time-spec-in : tie.Need-sub-time-spec-in
-sub-time-spec-in c = let at-number = c .before .before in part-lies _ 1 5 (at-number .before .before .last-in .ensures) (at-number .number .given .1) .0
+sub-time-spec-in c = let at-number = c .before .before in part-in-bounds _ 1 5 (at-number .before .before .last-in .ensures) (at-number .number .given .1) .0
 
 part-time-spec-in-start : tie.Need-part-time-spec-in-start
 part-time-spec-in-start c =
     let at-number = c .before .before in
-    let lies = part-lies _ 1 5 (at-number .before .before .last-in .ensures) (at-number .number .given .1) in
+    let lies = part-in-bounds _ 1 5 (at-number .before .before .last-in .ensures) (at-number .number .given .1) in
     omega arith
 
 part-time-spec-in-end : tie.Need-part-time-spec-in-end
 part-time-spec-in-end c =
     let at-number = c .before .before in
-    let lies = part-lies _ 1 5 (at-number .before .before .last-in .ensures) (at-number .number .given .1) in
+    let lies = part-in-bounds _ 1 5 (at-number .before .before .last-in .ensures) (at-number .number .given .1) in
     omega arith
 
 returns : tie.Need-returns

@@ -1,12 +1,12 @@
--- Each case of what varint_at answers is one of the definition `numberOf`.
+-- Each case of what varint_at answers is one of the definition `numberPayload`.
 use mathlib.Core.Path.{sym, _∙_}
-use Rattle.wire_value.specs.Field.{numberOf}
+use Rattle.wire_value.specs.Field.{numberPayload}
 use borrow.Author.Needs.{needs}
 use Rattle.wire_value.proofs.number_at.Statement.{statement}
 use Rattle.wire_value.proofs.number_at.Tie as tie
 
 pub number-at-spec : {M : Type 1} → statement M
-unfolding numberOf
+unfolding numberPayload
 number-at-spec =
     tie.close
     (tie.spec

@@ -1,7 +1,7 @@
 -- Each wire type is its case of `payloadAt`, by what fixed_at and varint_at ensure; Varints.within gives the room that is left.
 use mathlib.Core.Path.{_≡_, sym, subst, _∙_}
 use borrow.Author.Tests.{le-leb, lt-leb, ne-eqb, eq-eqb}
-use Rattle.wire_value.specs.Field.{payloadAt, numberOf, partOf}
+use Rattle.wire_value.specs.Field.{payloadAt, numberPayload, partOf}
 use Rattle.wire_varint.proofs.Varints.{Within, within}
 use borrow.Author.Needs.{needs}
 use Rattle.wire_value.proofs.payload_at.Statement.{statement}
@@ -26,7 +26,7 @@ unfolding payloadAt
 returns-2 c = c .fixed-at2 .ensures ∙ rw (c .before .if2 .taken)
 
 returns-3 : tie.Need-returns-3
-unfolding payloadAt numberOf
+unfolding payloadAt numberPayload
 returns-3 c =
     let at-value = c .before .before in
     rw (eq-eqb _ _ (c .if3 .taken), sym (at-value .before .before .varint-at .ensures) ∙ at-value .value .given .1)
@@ -59,7 +59,7 @@ returns-5 c =
     (rw (sym (at-varint .varint-at .ensures) ∙ at-value .value .given .1) (simp (lt-leb _ _ (c .if4 .left))))
 
 returns-6 : tie.Need-returns-6
-unfolding payloadAt numberOf partOf
+unfolding payloadAt numberPayload partOf
 returns-6 c =
     let at-varint = c .before .before in
     let at-if2 = at-varint .before in
@@ -68,7 +68,7 @@ returns-6 c =
     (either (eqb (at-if1 .before .before .args .wire) 0) _)
 
 returns-7 : tie.Need-returns-7
-unfolding payloadAt numberOf partOf
+unfolding payloadAt numberPayload partOf
 returns-7 c =
     let at-varint = c .before .before in
     let at-if2 = at-varint .before in

@@ -10,10 +10,10 @@ use Rattle.base_laws.specs.Base.{part}
 use Rattle.wire_schema.specs.Schema.{kindOf}
 use Rattle.wire_check_field.specs.Check.{checkOf}
 use Rattle.wire_check_field.specs.declared.Checked.the-variants as checked
-use Rattle.wire_walk_client.specs.declared.ClientRead.{ClientRead}
-use Rattle.wire_walk_client.specs.declared.ClientRead.the-variants as client
+use Rattle.wire_types.specs.declared.ClientRead.{ClientRead}
+use Rattle.wire_types.specs.declared.ClientRead.the-variants as client
 use Rattle.wire_walk_client.proofs.Clients.{Told, start, finish, stop, Field-at, Part-at, Member-at, Io-at, number-passes, fixed-passes, field-refused}
-use Rattle.wire_walk_client.proofs.Clients.{part-passes, member-lies, member-in, member-refused, member-place, io-member, io-in, io-lies, io-refused, io-place}
+use Rattle.wire_walk_client.proofs.Clients.{part-passes, member-in-bounds, member-in, member-refused, member-place, io-member, io-in, io-in-bounds, io-refused, io-place}
 use Rattle.wire_walk_client.proofs.client_walk.Statement.{statement}
 use Rattle.wire_walk_client.proofs.client_walk.Tie as tie
 
@@ -86,21 +86,21 @@ returns c =
 -- an I/O buffer
 
 sub-io-buffer : tie.Need-sub-io-buffer Inv-loop μ-loop
-sub-io-buffer c = member-lies (io-member (buffer c)) .0
+sub-io-buffer c = member-in-bounds (io-member (buffer c)) .0
 
 add-t34 : tie.Need-add-t34 Inv-loop μ-loop
 add-t34 c =
     let at-io = c .before .before .before in
     let at-if2 = at-io .before .before in
-    let lies = io-lies (buffer at-if2) (sym (at-io .io-buffer .ensures) ∙ c .before .seconds .given .1) in
-    omega (arith, lies .0, start-of (tag-of (at-if2 .before .before)) .good .0)
+    let in-bounds = io-in-bounds (buffer at-if2) (sym (at-io .io-buffer .ensures) ∙ c .before .seconds .given .1) in
+    omega (arith, in-bounds .0, start-of (tag-of (at-if2 .before .before)) .good .0)
 
 add-t35 : tie.Need-add-t35 Inv-loop μ-loop
 add-t35 c =
     let at-io = c .before .before .before in
     let at-if2 = at-io .before .before in
-    let lies = io-lies (buffer at-if2) (sym (at-io .io-buffer .ensures) ∙ c .before .seconds .given .1) in
-    omega (arith, lies .1, start-of (tag-of (at-if2 .before .before)) .good .0)
+    let in-bounds = io-in-bounds (buffer at-if2) (sym (at-io .io-buffer .ensures) ∙ c .before .seconds .given .1) in
+    omega (arith, in-bounds .1, start-of (tag-of (at-if2 .before .before)) .good .0)
 
 loop-less : tie.Need-loop-less Inv-loop μ-loop
 loop-less c =
@@ -128,7 +128,7 @@ returns-2 c =
 -- another member
 
 sub-check : tie.Need-sub-check Inv-loop μ-loop
-sub-check c = member-lies (member c) .0
+sub-check c = member-in-bounds (member c) .0
 
 entered : (c : tie.After-enum-told Inv-loop μ-loop) →
     at-bytes (λ a b s at found f w x. (at < b) × Told s b (client.Member f a b)) (c .before .before .before .before .before .before .before)
@@ -235,8 +235,8 @@ client-walk-spec =
     (λ c κs. search needs)
     (λ c. search needs)
     sub-io-buffer
-    (λ c. let lies = member-lies (io-member (buffer c)) in omega arith)
-    (λ c. let lies = member-lies (io-member (buffer c)) in omega arith)
+    (λ c. let in-bounds = member-in-bounds (io-member (buffer c)) in omega arith)
+    (λ c. let in-bounds = member-in-bounds (io-member (buffer c)) in omega arith)
     (λ c κs. search needs)
     (λ c. search needs)
     add-t34
@@ -247,8 +247,8 @@ client-walk-spec =
     add-t36
     returns-2
     sub-check
-    (λ c. let lies = member-lies (member c) in omega arith)
-    (λ c. let lies = member-lies (member c) in omega arith)
+    (λ c. let in-bounds = member-in-bounds (member c) in omega arith)
+    (λ c. let in-bounds = member-in-bounds (member c) in omega arith)
     (λ c κs. search needs)
     (λ c. search needs)
     loop-less-2

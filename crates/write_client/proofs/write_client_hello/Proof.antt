@@ -1,7 +1,7 @@
 -- Outcomes.same-outcome: the range is member_in's, the bytes (same-wrapped) are the hello's; Members.member-small bounds the member.
 use Rattle.write_message.proofs.Outcomes.{same-outcome, same-wrapped}
 use Rattle.write_message.proofs.Members.{member-small}
-use Rattle.write_pieces.specs.Put.{cover, around}
+use Rattle.write_pieces.specs.Parts.{cover, around}
 use Rattle.write_forms.specs.Pieces.{encode}
 use native.Mathlib.Omega.{arith}
 use mathlib.Core.Path.{refl}

@@ -1,7 +1,7 @@
 -- Outcomes.same-outcome: the range (Members.both-same) and the bytes (same-wrapped) are the restart's; Members.member-small bounds the member.
 use Rattle.write_message.proofs.Outcomes.{same-outcome, same-wrapped}
 use Rattle.write_message.proofs.Members.{member-small, both-same}
-use Rattle.write_pieces.specs.Put.{cover, around}
+use Rattle.write_pieces.specs.Parts.{cover, around}
 use Rattle.write_forms.specs.Pieces.{encode}
 use Rattle.base_laws.proofs.Order.{both-true}
 use native.Mathlib.Omega.{arith}

@@ -3,7 +3,7 @@ use lib.Dec.{leb}
 use Rattle.write_forms.specs.Draft.{flag}
 use Rattle.write_message.proofs.Members.{member-small, both-same}
 use Rattle.write_message.proofs.Outcomes.{same-outcome, same-wrapped}
-use Rattle.write_pieces.specs.Put.{cover, around}
+use Rattle.write_pieces.specs.Parts.{cover, around}
 use Rattle.write_forms.specs.Pieces.{encode}
 use Rattle.base_laws.proofs.Order.{both-true}
 use native.Mathlib.Omega.{arith}

@@ -1,6 +1,6 @@
 -- Outcomes.same-outcome: the bytes (same-wrapped) are the list's; no ends are never bad.
 use Rattle.write_message.proofs.Outcomes.{same-outcome, same-wrapped}
-use Rattle.write_pieces.specs.Put.{cover, around}
+use Rattle.write_pieces.specs.Parts.{cover, around}
 use Rattle.write_forms.specs.Draft.{cutAt, badEnds}
 use Rattle.write_forms.specs.Pieces.{encode, elements}
 use mathlib.Core.List.{append-nil}

@@ -1,7 +1,7 @@
 -- Outcomes.same-outcome: the range is ends_fit's, the bytes (same-wrapped) are the list's; ends that fit are not bad.
 use Rattle.write_message.proofs.Outcomes.{same-outcome, same-wrapped}
 use Rattle.write_message.specs.Fits.{endsFit}
-use Rattle.write_pieces.specs.Put.{cover, around}
+use Rattle.write_pieces.specs.Parts.{cover, around}
 use Rattle.write_forms.specs.Pieces.{encode, packed}
 use mathlib.Core.List.{append-nil}
 use borrow.Author.Tests.{not-true}

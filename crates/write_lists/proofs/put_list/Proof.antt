@@ -1,6 +1,6 @@
 -- The loop keeps Lists.Listed: what is put, with the elements from i on behind it, is the list; a turn is listed-more, the end listed-end.
 use Rattle.write_lists.proofs.Lists.{Listed, listed-room, listed-more, listed-end, elementsFrom, next-end}
-use Rattle.write_pieces.proofs.Puts.{fill-start}
+use Rattle.base_copy.proofs.Puts.{fill-start}
 use Rattle.base_laws.proofs.Parts.{length-part}
 use borrow.Author.Needs.{needs}
 use lib.ListN.{length, getD}

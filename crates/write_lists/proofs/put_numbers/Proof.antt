@@ -1,7 +1,7 @@
 -- Where the length is exact (Lengths.like-within) no numbers put nothing, and any other are head and packed bytes, Fields.text-some.
 use Rattle.write_pieces.proofs.Lengths.{like-within}
 use Rattle.write_pieces.proofs.Fields.{text-none, text-some, length-text}
-use Rattle.write_pieces.proofs.Puts.{nothing, puts}
+use Rattle.base_copy.proofs.Puts.{nothing, puts}
 use Rattle.write_forms.specs.Pieces.{head, packed}
 use lib.ListN.{length}
 use native.Mathlib.Omega.{arith}

@@ -2,7 +2,7 @@
 use Rattle.write_forms.specs.Pieces.{varint, packed}
 use lib.ListN.{length, drop, getD}
 use Rattle.write_lists.proofs.Packed.{next-number, no-number}
-use Rattle.write_pieces.proofs.Puts.{Filling, fill-start, fill-room, fill-more, fill-end}
+use Rattle.base_copy.proofs.Puts.{Filling, fill-start, fill-room, fill-more, fill-end}
 use borrow.Author.Needs.{needs}
 use native.Mathlib.Omega.{arith}
 use Prim.Native.Nat.{_+_, _-_, _≤_}

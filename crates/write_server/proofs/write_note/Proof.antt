@@ -1,7 +1,7 @@
 -- Outcomes.same-outcome: a note is the member's bytes themselves, Outcomes.same-note, for the members that Members.note-member tells.
 use Rattle.write_message.proofs.Outcomes.{same-outcome, same-note}
 use Rattle.write_message.proofs.Members.{note-member}
-use Rattle.write_pieces.specs.Put.{cover, around}
+use Rattle.write_pieces.specs.Parts.{cover, around}
 use Rattle.write_forms.specs.Pieces.{encode}
 use native.Mathlib.Omega.{arith}
 use mathlib.Core.Path.{refl}

@@ -2,7 +2,7 @@
 use Rattle.write_message.proofs.Outcomes.{same-outcome, same-wrapped}
 use Rattle.write_message.proofs.Members.{member-small, both-same}
 use Rattle.write_message.specs.Fits.{endsFit}
-use Rattle.write_pieces.specs.Put.{cover, around}
+use Rattle.write_pieces.specs.Parts.{cover, around}
 use Rattle.write_forms.specs.Draft.{cutAt}
 use Rattle.write_forms.specs.Pieces.{encode, elements, packed}
 use Rattle.base_laws.proofs.Order.{both-true}

@@ -1,7 +1,7 @@
 -- Outcomes.same-outcome: the range is time_fits', the bytes (same-wrapped) are the point's; Members.time-small bounds the member.
 use Rattle.write_message.proofs.Outcomes.{same-outcome, same-wrapped}
 use Rattle.write_message.proofs.Members.{time-small}
-use Rattle.write_pieces.specs.Put.{cover, around}
+use Rattle.write_pieces.specs.Parts.{cover, around}
 use Rattle.write_forms.specs.Pieces.{encode}
 use mathlib.Core.Path.{refl}
 use borrow.Author.Needs.{needs}

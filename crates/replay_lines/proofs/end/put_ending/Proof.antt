@@ -1,20 +1,20 @@
-use Rattle.replay_lines.specs.Ending.{ending}
+use Rattle.replay_lines.specs.Ending.{endText}
 use borrow.Author.Tests.{eq-eqb, ne-eqb}
 use native.Mathlib.Omega.{arith}
-use Rattle.write_pieces.proofs.Puts.{then, nothing}
+use Rattle.base_copy.proofs.Puts.{then, nothing}
 use borrow.Author.Needs.{needs}
 use Rattle.replay_lines.proofs.end.put_ending.Statement.{statement}
 use Rattle.replay_lines.proofs.end.put_ending.Tie as tie
 
 returns : tie.Need-returns
-unfolding ending
+unfolding endText
 returns c =
     let at-end = c .before .before in
     let a = at-end .before .before .before .args in
     rw (at-end .end .given .1, eq-eqb _ 0 (c .if1 .taken)) (nothing (a .out .now) (a .at) (omega arith), omega arith)
 
 returns-2 : tie.Need-returns-2
-unfolding ending
+unfolding endText
 returns-2 c =
     let at-put-raw2 = c .before .before in
     let at-put-decimal = at-put-raw2 .before .before .before .before .before in
@@ -25,7 +25,7 @@ returns-2 c =
     (then (then (at-put-raw .put-raw .ensures) (at-put-decimal .put-decimal .ensures .0)) (at-put-raw2 .put-raw2 .ensures), omega arith)
 
 returns-3 : tie.Need-returns-3
-unfolding ending
+unfolding endText
 returns-3 c =
     let at-put-decimal3 = c .before .before in
     let at-put-raw4 = at-put-decimal3 .before .before .before .before in
@@ -36,11 +36,11 @@ returns-3 c =
     (then (then (then (at-put-raw3 .put-raw3 .ensures) (at-put-decimal2 .put-decimal2 .ensures .0)) (at-put-raw4 .put-raw4 .ensures)) (at-put-decimal3 .put-decimal3 .ensures .0), omega arith)
 
 returns-4 : tie.Need-returns-4
-unfolding ending
+unfolding endText
 returns-4 c = rw (c .before .before .before .before .before .enum-told .given .1) (c .before .before .put-raw5 .ensures, omega arith)
 
 returns-5 : tie.Need-returns-5
-unfolding ending
+unfolding endText
 returns-5 c = rw (c .before .before .before .before .before .enum-told2 .given .1) (c .before .before .put-raw6 .ensures, omega arith)
 
 pub put-ending-spec : {M : Type 1} → statement M

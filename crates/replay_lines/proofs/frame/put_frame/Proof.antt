@@ -1,5 +1,5 @@
 use Rattle.replay_lines.specs.Wording.{frameLine}
-use Rattle.write_pieces.proofs.Puts.{then}
+use Rattle.base_copy.proofs.Puts.{then}
 use borrow.Author.Needs.{needs}
 use Rattle.replay_lines.proofs.frame.put_frame.Statement.{statement}
 use Rattle.replay_lines.proofs.frame.put_frame.Tie as tie

@@ -1,6 +1,6 @@
 use Rattle.replay_lines.specs.Wording.{pointText}
 use native.Mathlib.Omega.{arith}
-use Rattle.write_pieces.proofs.Puts.{then, nothing}
+use Rattle.base_copy.proofs.Puts.{then, nothing}
 use borrow.Author.Needs.{needs}
 use Rattle.replay_lines.proofs.frame.put_point.Statement.{statement}
 use Rattle.replay_lines.proofs.frame.put_point.Tie as tie

@@ -1,7 +1,7 @@
 use Rattle.replay_lines.specs.Wording.{verdict}
 use borrow.Author.Tests.{eq-eqb, ne-eqb}
 use native.Mathlib.Omega.{arith}
-use Rattle.write_pieces.proofs.Puts.{then}
+use Rattle.base_copy.proofs.Puts.{then}
 use borrow.Author.Needs.{needs}
 use Rattle.replay_lines.proofs.frame.put_verdict.Statement.{statement}
 use Rattle.replay_lines.proofs.frame.put_verdict.Tie as tie

@@ -1,12 +1,12 @@
 use Rattle.wire_fields.specs.Fields.{memberFrom}
-use Rattle.replay_text.specs.Names.{memberOf}
+use Rattle.replay_text.specs.Names.{shownMember}
 use mathlib.Core.Path.{sym, _∙_}
 use borrow.Author.Needs.{needs}
 use Rattle.replay_text.proofs.names.member_of.Statement.{statement}
 use Rattle.replay_text.proofs.names.member_of.Tie as tie
 
 pub member-of-spec : {M : Type 1} → statement M
-unfolding memberOf memberFrom
+unfolding shownMember memberFrom
 member-of-spec =
     tie.close
     (tie.spec

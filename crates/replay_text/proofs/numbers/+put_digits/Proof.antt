@@ -1,7 +1,7 @@
 use lib.ListN.{length-set}
-use Rattle.replay_text.specs.Words.{digits}
+use Rattle.replay_text.specs.Words.{decimalDigits}
 use Rattle.replay_text.proofs.Digits.{digits-one, digits-more}
-use Rattle.write_pieces.proofs.Puts.{then, nothing, put-byte, put-length}
+use Rattle.base_copy.proofs.Puts.{then, nothing, put-byte, put-length}
 use native.Mathlib.Omega.{arith}
 use Prim.Native.Nat.{ℕ, _<_}
 use borrow.Fn.Kinds.{In, Out}
@@ -28,7 +28,7 @@ abbrev Every : (put-digits-lts.Claims → In 1 put-digits-kinds.ps → Out 1 put
 Every Need = (t : ℕ) → Need (put-digits-below t, put-digits.Post) (put-digits-at t) put-digits.Post
 
 put-digits-returns : Every put-digits-lts.Need-returns
-unfolding digits
+unfolding decimalDigits
 put-digits-returns t c = let a = c .before .before .args in rw (c .if1 .taken) (nothing (a .out .now) (a .at) (omega arith), omega arith)
 
 put-digits-same-length : Every put-digits-lts.Need-same-length

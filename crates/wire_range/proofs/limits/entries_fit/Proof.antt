@@ -1,7 +1,7 @@
 -- The loop keeps "the entries from `at` on fit where all do"; an entry found is Elements.found-part, none Elements.found-none.
 use Rattle.wire_range.specs.Limits.{entriesFit}
 use Rattle.wire_message.specs.Message.{Bytes, entry, entries}
-use Rattle.wire_elements.proofs.Elements.{all-elements, found-none, found-part, found-lies}
+use Rattle.wire_elements.proofs.Elements.{all-elements, found-none, found-part, found-in-bounds}
 use Rattle.wire_elements.specs.Elements.{elementsAt}
 use Rattle.wire_fields.specs.Items.{items}
 use Rattle.wire_fields.specs.Fields.{fieldsAt, firstOf}
@@ -34,10 +34,10 @@ entry-found : (c : tie.After-start Inv-loop μ-loop) →
 entry-found c = sym (c .before .before .next-part .ensures) ∙ c .start .given .1
 
 sub-entry-fits : tie.Need-sub-entry-fits Inv-loop μ-loop
-sub-entry-fits c = found-lies _ _ _ (entry-found (c .before)) .1
+sub-entry-fits c = found-in-bounds _ _ _ (entry-found (c .before)) .1
 
 loop-less : tie.Need-loop-less Inv-loop μ-loop
-loop-less c = let lies = found-lies _ _ _ (entry-found (c .before .before .before .before)) in omega arith
+loop-less c = let lies = found-in-bounds _ _ _ (entry-found (c .before .before .before .before)) in omega arith
 
 loop-again : tie.Need-loop-again Inv-loop μ-loop
 unfolding entriesFit
@@ -72,8 +72,8 @@ entries-fit-spec =
     (λ c κs. search needs)
     (λ c. search needs)
     sub-entry-fits
-    (λ c. let lies = found-lies _ _ _ (entry-found (c .before)) in omega arith)
-    (λ c. let lies = found-lies _ _ _ (entry-found (c .before)) in omega arith)
+    (λ c. let lies = found-in-bounds _ _ _ (entry-found (c .before)) in omega arith)
+    (λ c. let lies = found-in-bounds _ _ _ (entry-found (c .before)) in omega arith)
     (λ c κs. search needs)
     loop-less
     loop-again

@@ -5,7 +5,7 @@ use Prim.Native.Nat.{ℕ, _-_}
 use mathlib.Core.Path.{sym, _∙_}
 use mathlib.Core.List.{List}
 use lib.ListN.{length}
-use Rattle.wire_walk_io.proofs.Ios.{Walked, start, finish, tag-past, tag-long, Tag-at, Delay-at, delay-lies, delayed, delay-refused, delay-place}
+use Rattle.wire_walk_io.proofs.Ios.{Walked, start, finish, tag-past, tag-long, Tag-at, Delay-at, delay-in-bounds, delayed, delay-refused, delay-place}
 use Rattle.wire_walk_io.proofs.Ios.{delay-past, ranged, range-past, rest, rest-refused, never-inside, never-number, never-fixed}
 use Rattle.wire_walk_io.proofs.io.io_buffer.Statement.{statement}
 use Rattle.wire_walk_io.proofs.io.io_buffer.Tie as tie
@@ -52,7 +52,7 @@ loop-holds c = start _
 -- ---- the delay
 
 sub-time-spec : tie.Need-sub-time-spec Inv-loop μ-loop
-sub-time-spec c = delay-lies (delay c) .0
+sub-time-spec c = delay-in-bounds (delay c) .0
 
 loop-less : tie.Need-loop-less Inv-loop μ-loop
 loop-less c =
@@ -173,8 +173,8 @@ io-buffer-spec =
     (λ c κs. search needs)
     (λ c. search needs)
     sub-time-spec
-    (λ c. let lies = delay-lies (delay c) in omega arith)
-    (λ c. let lies = delay-lies (delay c) in omega arith)
+    (λ c. let in-bounds = delay-in-bounds (delay c) in omega arith)
+    (λ c. let in-bounds = delay-in-bounds (delay c) in omega arith)
     (λ c κs. search needs)
     (λ c. search needs)
     loop-less

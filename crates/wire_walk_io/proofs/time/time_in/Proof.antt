@@ -1,10 +1,10 @@
--- Follow.part-lies puts the last field within the message; each case of what last_in answers is one of the definition `timeFrom`.
+-- Follow.part-in-bounds puts the last field within the message; each case of what last_in answers is one of the definition `timeFrom`.
 use native.Mathlib.Omega.{arith}
 use mathlib.Core.Path.{sym, _∙_}
 use Rattle.wire_walk_io.specs.Places.{timeFrom}
 use lib.ListN.{length}
 use Prim.Native.Nat.{_≤_}
-use Rattle.wire_fields.proofs.Follow.{part-lies}
+use Rattle.wire_fields.proofs.Follow.{part-in-bounds}
 use borrow.Author.Needs.{needs}
 use Rattle.wire_walk_io.proofs.time.time_in.Statement.{statement}
 use Rattle.wire_walk_io.proofs.time.time_in.Tie as tie
@@ -13,7 +13,7 @@ use Rattle.wire_walk_io.proofs.time.time_in.Tie as tie
 inside : (c : tie.After-known-told) →
     let read = c .before .start .given .0 in
     (read .1 .0 ≤ read .1 .1 .0) × (read .1 .1 .0 ≤ length (c .before .before .before .before .before .args .s .now))
-inside c = part-lies _ _ _ (c .before .before .before .last-in .ensures) (c .before .start .given .1)
+inside c = part-in-bounds _ _ _ (c .before .before .before .last-in .ensures) (c .before .start .given .1)
 
 sub-t : tie.Need-sub-t
 sub-t c = inside c .0

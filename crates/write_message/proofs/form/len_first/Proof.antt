@@ -1,6 +1,6 @@
 -- The lengths of the five pieces, each like its bytes, are added up by Lengths.like-append.
 use Rattle.write_message.proofs.Forms.{like-piece}
-use Rattle.write_pieces.specs.Put.{timePiece, numberPiece, stamp}
+use Rattle.write_pieces.specs.Parts.{timePiece, numberPiece, stamp}
 use Rattle.write_forms.specs.Pieces.{some}
 use Rattle.write_pieces.proofs.Lengths.{like-append, like-end}
 use borrow.Author.Needs.{needs}

@@ -1,5 +1,6 @@
 -- Puts.rest takes the room for all the pieces past each that is put, Puts.first gives the next its own; the five puts are joined by Puts.then.
-use Rattle.write_pieces.proofs.Puts.{then, end, Room, first, rest}
+use Rattle.base_copy.proofs.Puts.{then, end}
+use Rattle.write_pieces.proofs.Room.{Room, first, rest}
 use Rattle.write_message.specs.Form.{firstPieces}
 use borrow.Author.Needs.{needs}
 use Rattle.write_message.proofs.form.put_first.Statement.{statement}

@@ -1,5 +1,6 @@
 -- As put_first: Puts.rest and Puts.first give each of the four pieces its room, Puts.then joins their puts.
-use Rattle.write_pieces.proofs.Puts.{then, end, Room, first, rest}
+use Rattle.base_copy.proofs.Puts.{then, end}
+use Rattle.write_pieces.proofs.Room.{Room, first, rest}
 use Rattle.write_message.specs.Form.{lastPieces}
 use borrow.Author.Needs.{needs}
 use Rattle.write_message.proofs.form.put_last.Statement.{statement}

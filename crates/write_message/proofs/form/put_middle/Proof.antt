@@ -1,6 +1,6 @@
 -- `sizes` splits the middle into its list, its numbers and its bytes: what is left of the room is each put's; Puts.then joins the three.
 use Rattle.write_pieces.proofs.Fields.{text-least}
-use Rattle.write_pieces.proofs.Puts.{then}
+use Rattle.base_copy.proofs.Puts.{then}
 use Rattle.write_message.specs.Form.{middle}
 use Rattle.write_forms.specs.Draft.{cutAt}
 use Rattle.write_forms.specs.Pieces.{elements, text, encode, packed}

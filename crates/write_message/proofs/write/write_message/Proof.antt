@@ -3,7 +3,7 @@ use borrow.Author.Tests.{not-true, not-false}
 use Rattle.write_message.proofs.Outcomes.{Fits, run-refused, out-of-range, no-room, written, room-fits, like-wrapped, put-wrapped}
 use Rattle.write_message.proofs.Forms.{Exact, exact-between}
 use Rattle.write_message.specs.Form.{firstPieces, lastPieces, middle, formPieces}
-use Rattle.write_pieces.specs.Put.{Like}
+use Rattle.write_pieces.specs.Parts.{Like}
 use Rattle.write_forms.specs.Draft.{wrapped}
 use Rattle.write_forms.specs.Pieces.{Piece, encodeAll}
 use Rattle.wire_message.specs.Message.{Bytes}

@@ -1,5 +1,5 @@
 -- Both cases are the test of the definition `leftOut`.
-use Rattle.write_pieces.specs.Put.{leftOut}
+use Rattle.write_pieces.specs.Parts.{leftOut}
 use Rattle.write_pieces.proofs.number.left_out.Statement.{statement}
 use Rattle.write_pieces.proofs.number.left_out.Tie as tie
 

@@ -1,6 +1,6 @@
 -- A number left out puts nothing; any other is its tag and its value, Fields.number-in, with the room that Fields.length-number says.
 use Rattle.write_pieces.proofs.Fields.{number-out, number-in, length-number}
-use Rattle.write_pieces.proofs.Puts.{nothing, puts}
+use Rattle.base_copy.proofs.Puts.{nothing, puts}
 use native.Mathlib.Omega.{arith}
 use borrow.Author.Needs.{needs}
 use Rattle.write_pieces.proofs.number.put_number.Statement.{statement}

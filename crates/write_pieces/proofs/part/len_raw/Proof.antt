@@ -1,7 +1,7 @@
 -- Bytes beyond a message are `beyond`, all others `exact`.
 use mathlib.Core.Path.{refl}
 use native.Mathlib.Omega.{arith}
-use Rattle.write_pieces.specs.Put.{exact, beyond}
+use Rattle.write_pieces.specs.Parts.{exact, beyond}
 use Rattle.write_pieces.proofs.part.len_raw.Statement.{statement}
 use Rattle.write_pieces.proofs.part.len_raw.Tie as tie
 

@@ -1,6 +1,6 @@
 -- The two numbers' lengths add up: Fields.length-stamp.
 use Rattle.write_pieces.proofs.Fields.{length-stamp}
-use Rattle.write_pieces.specs.Put.{stamp}
+use Rattle.write_pieces.specs.Parts.{stamp}
 use native.Mathlib.Omega.{arith}
 use borrow.Author.Needs.{needs}
 use Rattle.write_pieces.proofs.part.len_stamp.Statement.{statement}

@@ -1,6 +1,6 @@
 -- Field 0 has no time, Fields.time-none; any other is Fields.length-time.
 use Rattle.write_pieces.proofs.Fields.{time-none, length-time}
-use Rattle.write_pieces.specs.Put.{stamp}
+use Rattle.write_pieces.specs.Parts.{stamp}
 use native.Mathlib.Omega.{arith}
 use borrow.Author.Needs.{needs}
 use Rattle.write_pieces.proofs.part.len_time.Statement.{statement}

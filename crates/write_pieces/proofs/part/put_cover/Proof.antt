@@ -1,6 +1,6 @@
 -- Field 0 puts nothing, Fields.cover-none; any other is its head, Fields.cover-some.
 use Rattle.write_pieces.proofs.Fields.{cover-none, cover-some}
-use Rattle.write_pieces.proofs.Puts.{nothing}
+use Rattle.base_copy.proofs.Puts.{nothing}
 use native.Mathlib.Omega.{arith}
 use lib.ListN.{length}
 use mathlib.Core.Path.{ap}

@@ -2,7 +2,7 @@
 use native.Mathlib.Omega.{arith}
 use borrow.Author.Needs.{needs}
 use Rattle.write_forms.specs.Pieces.{front}
-use Rattle.write_pieces.proofs.Puts.{nothing}
+use Rattle.base_copy.proofs.Puts.{nothing}
 use Rattle.write_pieces.proofs.part.put_front.Statement.{statement}
 use Rattle.write_pieces.proofs.part.put_front.Tie as tie
 

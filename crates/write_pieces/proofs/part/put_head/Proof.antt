@@ -1,6 +1,6 @@
 -- Tag and length, one behind the other (the ruleset puts), with the room that Fields.length-head says.
 use Rattle.write_pieces.proofs.Fields.{length-head}
-use Rattle.write_pieces.proofs.Puts.{puts}
+use Rattle.base_copy.proofs.Puts.{puts}
 use Rattle.write_forms.specs.Pieces.{head}
 use native.Mathlib.Omega.{arith}
 use borrow.Author.Needs.{needs}

@@ -1,6 +1,6 @@
 -- No bytes put nothing, Fields.text-none; any other is head and bytes, Fields.text-some, with the room of Fields.length-text.
 use Rattle.write_pieces.proofs.Fields.{text-none, text-some, length-text}
-use Rattle.write_pieces.proofs.Puts.{nothing, puts}
+use Rattle.base_copy.proofs.Puts.{nothing, puts}
 use native.Mathlib.Omega.{arith}
 use borrow.Author.Needs.{needs}
 use Rattle.write_pieces.proofs.part.put_text.Statement.{statement}

@@ -1,7 +1,7 @@
 -- Field 0 puts nothing, Fields.time-none; any other is head and two numbers, Fields.time-some, with the room of Fields.length-time.
 use Rattle.write_pieces.proofs.Fields.{time-none, time-some, length-time, length-stamp}
-use Rattle.write_pieces.proofs.Puts.{nothing, puts}
-use Rattle.write_pieces.specs.Put.{stamp}
+use Rattle.base_copy.proofs.Puts.{nothing, puts}
+use Rattle.write_pieces.specs.Parts.{stamp}
 use native.Mathlib.Omega.{arith}
 use borrow.Author.Needs.{needs}
 use Rattle.write_pieces.proofs.part.put_time.Statement.{statement}

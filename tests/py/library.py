@@ -1,0 +1,54 @@
+"""The library as the test scripts reach it: tests/c/driver.c and driver_sessions.c, built and called line by line."""
+
+import json
+import os
+import subprocess
+import sys
+
+ROOT = os.path.dirname(os.path.dirname(os.path.dirname(os.path.abspath(__file__))))
+DRIVER = os.path.join(ROOT, "target", "tests", "driver")
+SOURCES = [os.path.join(ROOT, "tests", "c", name) for name in ("driver.c", "driver_sessions.c")]
+HEADERS = [os.path.join(ROOT, "tests", "c", "driver.h"), os.path.join(ROOT, "include", "sudolog.h")]
+MADE = os.path.join(ROOT, "target", "staticlib", "libsudolog.a")
+
+HELP = """The library is target/staticlib/libsudolog.a (./build), or the archive
+that SUDOLOG_LIB names."""
+
+
+
+def archive():
+    """The archive to test, and whether it is the one that rt makes."""
+    named = os.environ.get("SUDOLOG_LIB")
+    return (named, False) if named else (MADE, True)
+
+
+def build():
+    """Makes the driver where it is missing or older than what it is made of. For an archive named by
+    SUDOLOG_LIB it is made each time: the driver does not show which archive is in it."""
+    lib, usual = archive()
+    if not os.path.exists(lib):
+        sys.exit(f"no library at {lib}: run ./build first, or set SUDOLOG_LIB")
+    newest = max(os.path.getmtime(part) for part in SOURCES + HEADERS + [lib])
+    if usual and os.path.exists(DRIVER) and os.path.getmtime(DRIVER) > newest:
+        return
+    os.makedirs(os.path.dirname(DRIVER), exist_ok=True)
+    flags = ["-std=c11", "-O2", "-Wall", "-Wextra", "-Werror", "-I", os.path.join(ROOT, "include")]
+    subprocess.run(["gcc", *flags, "-o", DRIVER, *SOURCES, lib], check=True)
+
+
+class Library:
+    """A running driver."""
+
+    def __init__(self):
+        build()
+        self.driver = subprocess.Popen([DRIVER], stdin=subprocess.PIPE, stdout=subprocess.PIPE)
+
+    def ask(self, *words):
+        """One request of driver.c; its answer as a Python value."""
+        self.driver.stdin.write(" ".join(words).encode() + b"\n")
+        self.driver.stdin.flush()
+        answer = self.driver.stdout.readline()
+        if not answer:
+            sys.exit(f"the driver ended (status {self.driver.wait()}) at: {' '.join(words)[:2000]}")
+        return json.loads(answer)
+
