@@ -128,7 +128,7 @@ pub last-in-in-bounds : (s : List ℕ) (lo hi : ℕ) → LastInBounds s (lastIn 
 unfolding fieldsAt
 last-in-in-bounds s lo hi = last-in-bounds s lo hi last.Nothing (fieldsOf s) tt (in-bounds (suc (length s - 0)) s 0)
 
--- a part that last_in answered, as l, lies within the message
+-- a part that last_in answered, as l, is in bounds
 pub part-in-bounds : (s : List ℕ) (lo hi : ℕ) {l : Last} {f a e : ℕ} → l ≡ lastIn lo hi s → l ≡ last.Part f a e → (a ≤ e) × (e ≤ length s)
 part-in-bounds s lo hi h is = subst (LastInBounds s) (sym h ∙ is) (last-in-in-bounds s lo hi)
 

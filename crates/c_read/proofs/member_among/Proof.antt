@@ -1,3 +1,4 @@
+-- Each case of what last_in answers is one of the definition `memberFrom`.
 use Rattle.wire_fields.specs.Fields.{memberFrom}
 use mathlib.Core.Path.{sym, _∙_}
 use borrow.Author.Needs.{needs}

@@ -1,3 +1,4 @@
+-- Each case of what client_message answers is one of `clientAnswer` and `clientBuffer`, by what `between` and lay_five ensure.
 use Rattle.c_read.specs.Answers.{clientAnswer, clientBuffer, clientNumbers}
 use mathlib.Core.Path.{sym, _∙_}
 use borrow.Author.Needs.{needs}

@@ -1,3 +1,4 @@
+-- count_of's contract, of what cut_frame ensures.
 use Rattle.wire_frame.specs.Frame.{countOf}
 use mathlib.Core.Path.{ap, _∙_}
 use borrow.Author.Needs.{needs}

@@ -1,3 +1,4 @@
+-- state_of's contract, of what cut_frame ensures.
 use Rattle.wire_frame.specs.Frame.{frameState}
 use mathlib.Core.Path.{ap, _∙_}
 use borrow.Author.Needs.{needs}

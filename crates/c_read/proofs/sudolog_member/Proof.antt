@@ -1,3 +1,4 @@
+-- Each case is a test of the message's number, with its callee's contract: the ruleset tests closes them.
 use Rattle.base_laws.proofs.Tests.{tests}
 use Rattle.c_read.specs.Answers.{memberOf}
 use borrow.Author.Tests.{eq-eqb, ne-eqb}

@@ -1,3 +1,4 @@
+-- Both cases are those of the definition `hasPoint`.
 use Rattle.c_session.specs.Session.{hasPoint}
 use borrow.Author.Needs.{needs}
 use Rattle.c_session.proofs.has_point.Statement.{statement}

@@ -1,3 +1,4 @@
+-- Both cases are those of the definition `pointNumber`.
 use Rattle.c_session.specs.Session.{pointNumber}
 use borrow.Author.Needs.{needs}
 use Rattle.c_session.proofs.point_number.Statement.{statement}

@@ -1,3 +1,4 @@
+-- Each case of what check_file answers is one of the definition `fileNumber`.
 use mathlib.Core.Path.{sym, _∙_}
 use Rattle.c_session.specs.Session.{fileNumber}
 use borrow.Author.Needs.{needs}

@@ -1,3 +1,4 @@
+-- A buffer that is too short is Messages.no-room; otherwise load, message, save and the five numbers are Messages.answered.
 use Rattle.c_session.proofs.Messages.{no-room, answered}
 use borrow.Author.Needs.{needs}
 use Rattle.c_session.proofs.sudolog_session_message.Statement.{statement}

@@ -1,3 +1,4 @@
+-- Both cases of what `tick` answers, of the session that `load` ensures, are those of `tickNumber`.
 use mathlib.Core.Path.{sym, ap, _∙_}
 use Rattle.session.specs.Step.{tick}
 use Rattle.c_session.specs.Session.{tickNumber}

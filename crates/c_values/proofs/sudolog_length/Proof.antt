@@ -1,3 +1,4 @@
+-- The length between the places that part_in ensures.
 use Prim.Native.Nat.{_-_}
 use Rattle.wire_types.specs.declared.Span.{Span}
 use mathlib.Core.Path.{ap, _∙_}

@@ -1,3 +1,4 @@
+-- A number found and laid is Cursor.number-laid, one that has no room Cursor.no-room, none left Cursor.none-left.
 use Rattle.c_values.proofs.Cursor.{none-left, no-room, number-laid}
 use Rattle.wire_elements.specs.Elements.{told}
 use mathlib.Core.Path.{sym, ap, _∙_}

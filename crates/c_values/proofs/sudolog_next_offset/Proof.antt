@@ -1,3 +1,4 @@
+-- Each case of what next_part answers is one of the definition `offsetOf`.
 use Rattle.c_values.specs.Answers.{offsetOf}
 use mathlib.Core.Path.{sym, _∙_}
 use borrow.Author.Needs.{needs}

@@ -1,3 +1,4 @@
+-- The start of the place that part_in ensures.
 use mathlib.Core.Path.{ap}
 use Rattle.wire_types.specs.declared.Span.{Span}
 use borrow.Author.Needs.{needs}

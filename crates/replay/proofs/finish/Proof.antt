@@ -1,3 +1,4 @@
+-- The line that is written is the beginning of the buffer: end_line's contract bounds it.
 use lib.Seq.{length-take-le}
 use native.Mathlib.Omega.{arith}
 use mathlib.Core.Path.{sym}

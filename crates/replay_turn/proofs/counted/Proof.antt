@@ -1,3 +1,4 @@
+-- Both cases are the test of the definition `frameCounted`: the ruleset tests closes them.
 use Rattle.replay_turn.specs.Turn as w
 use Rattle.base_laws.proofs.Tests.{tests}
 use borrow.Author.Needs.{needs}

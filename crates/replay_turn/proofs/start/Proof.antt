@@ -1,3 +1,4 @@
+-- The session is what `open` ensures; nothing is used or counted yet.
 use mathlib.Core.Path.{ap}
 use borrow.Author.Needs.{needs}
 use Rattle.replay_turn.proofs.start.Statement.{statement}

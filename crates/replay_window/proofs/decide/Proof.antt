@@ -1,3 +1,4 @@
+-- Each case of what cut_frame answers is one of `nextOf`; Cuts.sized bounds the sums.
 use lib.ListN.{length}
 use Rattle.replay_window.specs.Window.{byCut, nextOf}
 use Rattle.replay_window.proofs.Cuts.{Sized, sized}

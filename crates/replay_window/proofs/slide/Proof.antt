@@ -1,3 +1,4 @@
+-- The loop keeps "the first i bytes are moved"; a turn is Slides.move-one, the end all-moved; places out of order are not-held and turned-round.
 use Rattle.replay_window.proofs.Slides.{moved, move-one, all-moved, not-held, turned-round}
 use borrow.Author.Needs.{needs}
 use lib.Seq.{paste-zero}

@@ -1,4 +1,4 @@
--- The delay lies in the buffer (Plains.delay-lies); with it and what data_at ensures the buffer is Plains.delay-data.
+-- The delay lies in the buffer (Plains.delay-in-bounds); with it and what data_at ensures the buffer is Plains.delay-data.
 use native.Mathlib.Omega.{arith}
 use mathlib.Core.Path.{subst, sym}
 use Rattle.wire_fast_client.specs.Plain.{IoSaid}

@@ -1,4 +1,4 @@
--- The member lies in the message (Plains.member-lies), its data too (member-within), and what plain_io found is Plains.member-io.
+-- The member is in bounds (Plains.member-in-bounds), its data too (member-within), and what plain_io found is Plains.member-io.
 use native.Mathlib.Omega.{arith}
 use Prim.Native.Nat.{_+_, _≤_}
 use lib.ListN.{length}
@@ -8,7 +8,7 @@ use borrow.Author.Needs.{needs}
 use Rattle.wire_fast_client.proofs.from_member.Statement.{statement}
 use Rattle.wire_fast_client.proofs.from_member.Tie as tie
 
--- where the member lies
+-- where the member is
 in-bounds : (c : tie.Start) → (c .args .start ≤ c .args .end) × (c .args .end ≤ length (c .args .s .now))
 in-bounds c = member-in-bounds _ _ (c .pre .0 .0) (c .pre .0 .1) _ _ (c .pre .1 .0)
 

@@ -1,4 +1,4 @@
--- Each field means what the definition `exit` reads: Meaning.time-means, Items.number-means and bytes-means; Follow.span-lies for the places.
+-- Each field means what the definition `exit` reads: Meaning.time-means, Items.number-means and bytes-means; Follow.span-in-bounds for the places.
 use Rattle.wire_message.specs.Message.{exit}
 use Rattle.wire_message.specs.Places.{exitValue}
 use Rattle.wire_message.proofs.Meaning.{time-means}

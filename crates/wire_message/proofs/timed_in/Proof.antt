@@ -1,4 +1,4 @@
--- Both fields mean what the definition `timed` reads, Meaning.time-means and Items.bytes-means; Follow.span-lies for the places.
+-- Both fields mean what the definition `timed` reads, Meaning.time-means and Items.bytes-means; Follow.span-in-bounds for the places.
 use Rattle.wire_message.specs.Message.{timed}
 use Rattle.wire_message.specs.Places.{timedValue}
 use Rattle.wire_message.proofs.Meaning.{time-means}

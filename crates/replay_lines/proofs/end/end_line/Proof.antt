@@ -1,3 +1,4 @@
+-- With room the line is put_end's, Lines.room; without it there is none, Lines.no-room.
 use Rattle.replay_lines.proofs.Lines.{room, no-room}
 use borrow.Author.Needs.{needs}
 use Rattle.replay_lines.proofs.end.end_line.Statement.{statement}

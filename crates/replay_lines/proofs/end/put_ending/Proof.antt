@@ -1,3 +1,4 @@
+-- Each case of the end is one of `ending`; its parts are joined by Puts.then, an end at 0 puts nothing.
 use Rattle.replay_lines.specs.Ending.{endText}
 use borrow.Author.Tests.{eq-eqb, ne-eqb}
 use native.Mathlib.Omega.{arith}
@@ -16,24 +17,22 @@ returns c =
 returns-2 : tie.Need-returns-2
 unfolding endText
 returns-2 c =
-    let at-put-raw2 = c .before .before in
-    let at-put-decimal = at-put-raw2 .before .before .before .before .before in
-    let at-put-raw = at-put-decimal .before .before .before .before in
-    let at-if1 = at-put-raw .before .before .before in
-    let at-end = at-if1 .before .before in
-    rw (at-end .end .given .1, ne-eqb _ 0 (at-if1 .if1 .left))
-    (then (then (at-put-raw .put-raw .ensures) (at-put-decimal .put-decimal .ensures .0)) (at-put-raw2 .put-raw2 .ensures), omega arith)
+    let at-raw2 = c .before .before in
+    let at-decimal = at-raw2 .before .before .before .before .before in
+    let at-raw = at-decimal .before .before .before .before in
+    let at-if1 = at-raw .before .before .before in
+    let put = then (then (at-raw .put-raw .ensures) (at-decimal .put-decimal .ensures .0)) (at-raw2 .put-raw2 .ensures) in
+    rw (at-if1 .before .before .end .given .1, ne-eqb _ 0 (at-if1 .if1 .left)) (put, omega arith)
 
 returns-3 : tie.Need-returns-3
 unfolding endText
 returns-3 c =
-    let at-put-decimal3 = c .before .before in
-    let at-put-raw4 = at-put-decimal3 .before .before .before .before in
-    let at-put-decimal2 = at-put-raw4 .before .before .before .before .before in
-    let at-put-raw3 = at-put-decimal2 .before .before .before .before in
-    let at-end2 = at-put-raw3 .before .before .before .before in
-    rw (at-end2 .end2 .given .1)
-    (then (then (then (at-put-raw3 .put-raw3 .ensures) (at-put-decimal2 .put-decimal2 .ensures .0)) (at-put-raw4 .put-raw4 .ensures)) (at-put-decimal3 .put-decimal3 .ensures .0), omega arith)
+    let at-decimal3 = c .before .before in
+    let at-raw4 = at-decimal3 .before .before .before .before in
+    let at-decimal2 = at-raw4 .before .before .before .before .before in
+    let at-raw3 = at-decimal2 .before .before .before .before in
+    let begun = then (then (at-raw3 .put-raw3 .ensures) (at-decimal2 .put-decimal2 .ensures .0)) (at-raw4 .put-raw4 .ensures) in
+    rw (at-raw3 .before .before .before .before .end2 .given .1) (then begun (at-decimal3 .put-decimal3 .ensures .0), omega arith)
 
 returns-4 : tie.Need-returns-4
 unfolding endText

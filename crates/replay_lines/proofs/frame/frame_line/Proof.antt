@@ -1,3 +1,4 @@
+-- With room the line is put_frame's, of the member that member_of ensures, Lines.room; without it there is none, Lines.no-room.
 use Rattle.replay_lines.proofs.Lines.{room, no-room}
 use borrow.Author.Needs.{needs}
 use Rattle.replay_lines.proofs.frame.frame_line.Statement.{statement}

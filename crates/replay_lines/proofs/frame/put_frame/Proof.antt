@@ -1,3 +1,4 @@
+-- The six parts of the line, one behind the other, are `frameLine`: Puts.then.
 use Rattle.replay_lines.specs.Wording.{frameLine}
 use Rattle.base_copy.proofs.Puts.{then}
 use borrow.Author.Needs.{needs}
@@ -7,18 +8,14 @@ use Rattle.replay_lines.proofs.frame.put_frame.Tie as tie
 returns : tie.Need-returns
 unfolding frameLine
 returns c =
-    let at-put-raw = c .before .before in
-    let at-put-key = at-put-raw .before .before .before .before .before in
-    let at-put-point = at-put-key .before .before .before .before in
-    let at-put-standing = at-put-point .before .before .before .before in
-    let at-put-verdict = at-put-standing .before .before .before .before in
-    let at-put-heading = at-put-verdict .before .before .before .before in
-    then
-    (then
-    (then
-    (then (then (at-put-heading .put-heading .ensures .0) (at-put-verdict .put-verdict .ensures .0))
-    (at-put-standing .put-standing .ensures .0)) (at-put-point .put-point .ensures .0)) (at-put-key .put-key .ensures .0))
-    (at-put-raw .put-raw .ensures)
+    let at-last = c .before .before in
+    let at-key = at-last .before .before .before .before .before in
+    let at-point = at-key .before .before .before .before in
+    let at-standing = at-point .before .before .before .before in
+    let at-verdict = at-standing .before .before .before .before in
+    let at-heading = at-verdict .before .before .before .before in
+    let begun = then (then (at-heading .put-heading .ensures .0) (at-verdict .put-verdict .ensures .0)) (at-standing .put-standing .ensures .0) in
+    then (then (then begun (at-point .put-point .ensures .0)) (at-key .put-key .ensures .0)) (at-last .put-raw .ensures)
 
 pub put-frame-spec : {M : Type 1} → statement M
 put-frame-spec =

@@ -1,3 +1,4 @@
+-- The three parts, one behind the other: Puts.then.
 use native.Mathlib.Omega.{arith}
 use Rattle.base_copy.proofs.Puts.{then}
 use borrow.Author.Needs.{needs}

@@ -1,3 +1,4 @@
+-- A refusal 8 puts the key's number (Puts.then), any other nothing.
 use Rattle.replay_lines.specs.Wording.{keyText}
 use borrow.Author.Tests.{eq-eqb, ne-eqb}
 use native.Mathlib.Omega.{arith}

@@ -1,3 +1,4 @@
+-- No point puts nothing; a point is its four parts, joined by Puts.then.
 use Rattle.replay_lines.specs.Wording.{pointText}
 use native.Mathlib.Omega.{arith}
 use Rattle.base_copy.proofs.Puts.{then, nothing}
@@ -12,13 +13,12 @@ returns c = let a = c .before .before .before .args in rw (c .enum-told .given .
 returns-2 : tie.Need-returns-2
 unfolding pointText
 returns-2 c =
-    let at-put-nine = c .before .before in
-    let at-put-raw2 = at-put-nine .before .before .before .before in
-    let at-put-decimal = at-put-raw2 .before .before .before .before .before in
-    let at-put-raw = at-put-decimal .before .before .before .before in
-    let at-point = at-put-raw .before .before .before .before in
-    rw (at-point .point .given .1)
-    (then (then (then (at-put-raw .put-raw .ensures) (at-put-decimal .put-decimal .ensures .0)) (at-put-raw2 .put-raw2 .ensures)) (at-put-nine .put-nine .ensures), omega arith)
+    let at-nine = c .before .before in
+    let at-raw2 = at-nine .before .before .before .before in
+    let at-decimal = at-raw2 .before .before .before .before .before in
+    let at-raw = at-decimal .before .before .before .before in
+    let begun = then (then (at-raw .put-raw .ensures) (at-decimal .put-decimal .ensures .0)) (at-raw2 .put-raw2 .ensures) in
+    rw (at-raw .before .before .before .before .point .given .1) (then begun (at-nine .put-nine .ensures), omega arith)
 
 pub put-point-spec : {M : Type 1} → statement M
 put-point-spec =

@@ -1,3 +1,4 @@
+-- The four parts, one behind the other: Puts.then.
 use native.Mathlib.Omega.{arith}
 use Rattle.base_copy.proofs.Puts.{then}
 use borrow.Author.Needs.{needs}
@@ -6,14 +7,12 @@ use Rattle.replay_lines.proofs.frame.put_standing.Tie as tie
 
 returns : tie.Need-returns
 returns c =
-    let at-put-decimal = c .before .before in
-    let at-put-raw2 = at-put-decimal .before .before .before .before in
-    let at-put-state = at-put-raw2 .before .before .before .before .before in
-    let at-put-raw = at-put-state .before .before .before .before in (
-      then (then (then (at-put-raw .put-raw .ensures) (at-put-state .put-state .ensures .0)) (at-put-raw2 .put-raw2 .ensures))
-          (at-put-decimal .put-decimal .ensures .0),
-      omega arith,
-    )
+    let at-decimal = c .before .before in
+    let at-raw2 = at-decimal .before .before .before .before in
+    let at-state = at-raw2 .before .before .before .before .before in
+    let at-raw = at-state .before .before .before .before in
+    let begun = then (then (at-raw .put-raw .ensures) (at-state .put-state .ensures .0)) (at-raw2 .put-raw2 .ensures) in
+    (then begun (at-decimal .put-decimal .ensures .0), omega arith)
 
 pub put-standing-spec : {M : Type 1} → statement M
 put-standing-spec =

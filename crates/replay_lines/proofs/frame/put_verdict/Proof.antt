@@ -1,3 +1,4 @@
+-- Both cases are the test of `verdict`; the parts are joined by Puts.then.
 use Rattle.replay_lines.specs.Wording.{verdict}
 use borrow.Author.Tests.{eq-eqb, ne-eqb}
 use native.Mathlib.Omega.{arith}

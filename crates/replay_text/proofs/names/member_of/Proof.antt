@@ -1,3 +1,4 @@
+-- Each case of what last_in answers is one of the definition `shownMember`.
 use Rattle.wire_fields.specs.Fields.{memberFrom}
 use Rattle.replay_text.specs.Names.{shownMember}
 use mathlib.Core.Path.{sym, _∙_}

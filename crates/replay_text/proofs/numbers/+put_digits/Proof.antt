@@ -1,3 +1,4 @@
+-- By the room t: no room puts nothing, one digit is Digits.digits-one, more are Digits.digits-more over the claim at less room.
 use lib.ListN.{length-set}
 use Rattle.replay_text.specs.Words.{decimalDigits}
 use Rattle.replay_text.proofs.Digits.{digits-one, digits-more}
@@ -35,7 +36,9 @@ put-digits-same-length : Every put-digits-lts.Need-same-length
 put-digits-same-length t c = simp length-set
 
 put-digits-returns-2 : Every put-digits-lts.Need-returns-2
-put-digits-returns-2 t c = let a = c .before .before .before .args in rw (digits-one (a .k) (a .n) (c .before .if1 .left) (c .if2 .taken)) (put-byte (a .out .now) (a .at) _ (omega arith), omega arith)
+put-digits-returns-2 t c =
+    let a = c .before .before .before .args in
+    rw (digits-one (a .k) (a .n) (c .before .if1 .left) (c .if2 .taken)) (put-byte (a .out .now) (a .at) _ (omega arith), omega arith)
 
 put-digits-put-digits-requires : Every put-digits-lts.Need-put-digits-requires
 put-digits-put-digits-requires t c κs = (omega arith, omega arith)
@@ -44,7 +47,14 @@ put-digits-same-length-2 : Every put-digits-lts.Need-same-length-2
 put-digits-same-length-2 t c = simp length-set (put-length (c .before .before .put-digits .ensures .0))
 
 put-digits-returns-3 : Every put-digits-lts.Need-returns-3
-put-digits-returns-3 t c = let a = c .before .before .before .before .before .before .before .args in let o = c .before .before .put-digits in rw (digits-more (a .k) (a .n) (c .before .before .before .before .before .if1 .left) (c .before .before .before .before .if2 .left)) (then (o .ensures .0) (put-byte (o .last .0) (o .result) _ (omega (arith, put-length (o .ensures .0)))), omega arith)
+put-digits-returns-3 t c =
+    let at-call = c .before .before in
+    let at-if2 = at-call .before .before in
+    let at-if1 = at-if2 .before in
+    let a = at-if1 .before .before .args in
+    let o = at-call .put-digits in
+    let last = put-byte (o .last .0) (o .result) _ (omega (arith, put-length (o .ensures .0))) in
+    rw (digits-more (a .k) (a .n) (at-if1 .if1 .left) (at-if2 .if2 .left)) (then (o .ensures .0) last, omega arith)
 
 pub +put-digits-spec : {M : Type 1} → statement M
 +put-digits-spec = close μ-put-digits λ t. put-digits-lts.spec (

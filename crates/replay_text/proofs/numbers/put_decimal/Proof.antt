@@ -1,3 +1,4 @@
+-- put_digits' contract with room for twenty digits is the definition `decimal`.
 use Rattle.replay_text.specs.Words.{decimal}
 use borrow.Author.Needs.{needs}
 use Rattle.replay_text.proofs.numbers.put_decimal.Statement.{statement}

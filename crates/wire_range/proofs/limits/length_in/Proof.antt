@@ -1,4 +1,4 @@
--- The length of the bytes at a field's place (Follow.span-lies, Parts.length-part) is that of its item: Items.bytes-means.
+-- The length of the bytes at a field's place (Follow.span-in-bounds, Parts.length-part) is that of its item: Items.bytes-means.
 use Rattle.wire_fields.proofs.Follow.{span-in-bounds}
 use Rattle.wire_fields.proofs.Items.{bytes-means}
 use Rattle.base_laws.proofs.Parts.{length-part}

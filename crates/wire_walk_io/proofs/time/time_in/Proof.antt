@@ -1,4 +1,4 @@
--- Follow.part-lies puts the last field within the message; each case of what last_in answers is one of the definition `timeFrom`.
+-- Follow.part-in-bounds puts the last field within the message; each case of what last_in answers is one of the definition `timeFrom`.
 use native.Mathlib.Omega.{arith}
 use mathlib.Core.Path.{sym, _∙_}
 use Rattle.wire_walk_io.specs.Places.{timeFrom}
