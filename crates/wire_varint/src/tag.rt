@@ -6,6 +6,9 @@ ghost use mathlib.Core.Path.{_≡_};
 ghost use Rattle.wire_varint.specs.Tag.{tagFits, tagOf, tagAt};
 ghost use Rattle.wire_varint.specs.declared.Varint.the-variants.{Value};
 
+// The greatest tag.
+const TAG_LIMIT: u64 = 4294967295;
+
 // A tag: a field number and a wire type, or refusal 2 or 4.
 pub enum Tag {
     Field { number: u64, wire: u8, next: usize },
@@ -15,7 +18,7 @@ pub enum Tag {
 fn tag_fits(value: u64) -> bool
     ensures { λ r. ⌜ r ≡ tagFits value ⌝ }
 {
-    if value <= 4294967295 {
+    if value <= TAG_LIMIT {
         if 1 <= value / 8 {
             let wire = value % 8;
             if wire <= 2 {
