@@ -40,7 +40,7 @@ pub record HoldsFile (area : Bytes) (used : ℕ) : Type 0 where
   pub used-bytes : take used area ≡ fileBytes records
   pub used-length : used ≡ length (fileBytes records)
 
--- of an area that a host hands over nothing is asked but that its used bytes are bytes; from the first accept or restart that is taken
+-- of an area that a host hands over nothing is required but that its used bytes are bytes; from the first accept or restart that is taken
 -- on it holds a file
 pub data AreaHolds (area : Bytes) (used : ℕ) : Type 0 where
   some-bytes : AreBytes (take used area) → AreaHolds area used
@@ -69,7 +69,7 @@ pub record Agrees (h : Host) : Type 0 where
   pub holds : HoldsFile (h .area) (h .used)
   pub carries : SessionCarries h (holds .records)
 
--- ---- what holds in each state, by what is asked of the area
+-- ---- what holds in each state, by what is required of the area
 
 module _ (Holds : Bytes → ℕ → Type 0) where
   -- before an accept or a restart

@@ -1,4 +1,4 @@
--- Each case of what next_part answers is one of the definition `lengthOf`.
+-- Each case of what next_part answers is one of the definition `foundLength`.
 use Rattle.c_values.specs.Answers.{foundLength}
 use mathlib.Core.Path.{sym, _∙_}
 use borrow.Author.Needs.{needs}

@@ -1,4 +1,4 @@
--- The code is the definition `answerOf`: refl.
+-- The code is the definition `asNumber`: refl.
 use mathlib.Core.Path.{refl}
 use Rattle.c_write.specs.Answer.{asNumber}
 use borrow.Author.Needs.{needs}

@@ -1,4 +1,4 @@
--- Each case of the end is one of `ending`; its parts are joined by Puts.then, an end at 0 puts nothing.
+-- Each case of the end is one of `endText`; its parts are joined by Puts.then, an end at 0 puts nothing.
 use Rattle.replay_lines.specs.Ending.{endText}
 use borrow.Author.Tests.{eq-eqb, ne-eqb}
 use native.Mathlib.Omega.{arith}
