@@ -132,25 +132,25 @@ either : (t : Bool) → pick t true true ≡ true
 either true = refl
 either false = refl
 
-module _ (d : Bytes) (keys : Keys) (h : 1 ≤ length d) where
-  pub string-passes : KeySeen isString d keys (seen.Fine (withKey keys (keyNumber d)))
+module _ (d : Bytes) (h : 1 ≤ length d) where
+  pub string-passes : KeySeen isString d (seen.Fine (keyNumber d))
   unfolding KeySeen EntrySeen
   string-passes v t =
       let y = string-set v t in (
         in-range d v h (y .0),
         λ k l. record {
-          met = with-key-met keys (keyNumber d) k l ∙ ap (λ (q : Bool). pick q true (isMet k keys)) (sym (key-named d k l));
+          named = key-named d k l;
           string = ap (λ (q : Bool). pick (sameBytes d (keyBytes k)) q true) (y .1) ∙ either (sameBytes d (keyBytes k));
         },
       )
 
-  pub other-passes : keyNumber d ≡ 4 → KeySeen isSet d keys (seen.Fine keys)
+  pub other-passes : keyNumber d ≡ 4 → KeySeen isSet d (seen.Fine 4)
   unfolding KeySeen EntrySeen
   other-passes e v t = (
     in-range d v h t,
     λ k l.
-        let q : sameBytes d (keyBytes k) ≡ false = key-named d k l ∙ ne-eqb (keyNumber d) k (omega arith) in
-        record { met = ap (λ (x : Bool). pick x true (isMet k keys)) (sym q); string = ap (λ (x : Bool). pick x (stringOrNone v) true) q },
+        let q : sameBytes d (keyBytes k) ≡ eqb 4 k = key-named d k l ∙ ap (λ (n : ℕ). eqb n k) e in
+        record { named = q; string = ap (λ (x : Bool). pick x (stringOrNone v) true) (q ∙ ne-eqb 4 k (omega arith)) },
   )
 
 -- ---- an entry by its two fields
@@ -161,8 +161,8 @@ module _ {s : List ℕ} {k : ℕ} {f : Field} (h : Holds s k f) where
   held = ap (λ (fs : List Field). entry (map (itemOf s) fs)) (h .fields)
 
   -- f is read as the value v, which passes the test
-  pub by-value : (test : Value → Bool) (v : Value) (keys : Keys) (r : Seen)
+  pub by-value : (test : Value → Bool) (v : Value) (r : Seen)
       → entry (bytes 1 (part s 2 k) ∷ itemOf s f ∷ []) ≡ record { key = part s 2 k; value = v } → test v ≡ true
-      → KeySeen test (part s 2 k) keys r → EntrySeen (entry (items s)) keys r
+      → KeySeen test (part s 2 k) r → EntrySeen (entry (items s)) r
   unfolding KeySeen
-  by-value test v keys r e t g = subst (λ (x : Entry). EntrySeen x keys r) (sym (held ∙ e)) (g v t)
+  by-value test v r e t g = subst (λ (x : Entry). EntrySeen x r) (sym (held ∙ e)) (g v t)

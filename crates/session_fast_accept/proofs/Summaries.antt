@@ -28,12 +28,12 @@ use Rattle.wire_message.specs.Message.{Bytes, Entry, timeSpec, timeField, entry
 use Rattle.wire_range.specs.Limits.{upTo, dateFits, entriesFit}
 use Rattle.wire_range.specs.Range.{acceptFits, bodyFits}
 use Rattle.session_entries.specs.Required.{sameBytes, keyBytes, lastValue, stringOrNone, typesFrom, has, missingFrom, entriesRefusal}
-use Rattle.session_fast_accept.specs.Summary.{isMet, Passed, EntrySeen, Summarised}
+use Rattle.session_fast_accept.specs.Summary.{withKey, isMet, Passed, EntrySeen, Summarised}
 use Rattle.session_fast_accept.specs.declared.Keys.{Keys}
 use Rattle.session_fast_accept.specs.declared.Seen.the-variants as seen
 use Rattle.session_fast_accept.specs.declared.Summary.the-variants as summary
 use Rattle.session_entries.proofs.Laws.{entriesAt, all-entries, fitsFrom, fits-all}
-use Rattle.session_fast_accept.proofs.KeyLaws.{each-key}
+use Rattle.session_fast_accept.proofs.KeyLaws.{each-key, with-key-met}
 
 -- ---- a field by its tag, which is one byte
 
@@ -78,13 +78,14 @@ later true false x = refl
 later false true x = refl
 later false false x = refl
 
-key-past : (k : ℕ) {was is : Bool} {e : Entry} {es all : List Entry} → KeyAt k was (e ∷ es) all → Passed e k was is → KeyAt k is es all
+key-past : (k n : ℕ) (keys : Keys) {e : Entry} {es all : List Entry} → k < 4 → KeyAt k (isMet k keys) (e ∷ es) all → Passed e n k
+    → KeyAt k (isMet k (withKey keys n)) es all
 unfolding fitsFrom has
-key-past k {was} {is} {e} {es} {all} h p = record {
+key-past k n keys {e} {es} {all} l h p = record {
   strings = ap (λ (t : Bool). fitsFrom k t es) (sym (p .string)) ∙ h .strings;
   found =
-      ap (λ (t : Bool). pick t true (has k es)) (p .met)
-      ∙ later (sameBytes (e .key) (keyBytes k)) was (has k es)
+      ap (λ (t : Bool). pick t true (has k es)) (with-key-met keys n k l ∙ ap (λ (q : Bool). pick q true (isMet k keys)) (sym (p .named)))
+      ∙ later (sameBytes (e .key) (keyBytes k)) (isMet k keys) (has k es)
       ∙ h .found;
 }
 
@@ -178,10 +179,10 @@ module _ {s : List ℕ} {at : ℕ} {expect : Bool} {keys : Keys} (g : Told s at 
     each = same .1;
   }
 
-  pub entered : (d : Bytes) (n : ℕ) (more : Keys) → itemsAt s at ≡ item.bytes 2 d ∷ itemsAt s n
-      → EntrySeen (entry (items d)) keys (seen.Fine more) → Told s n expect more
+  pub entered : (d : Bytes) (n key : ℕ) → itemsAt s at ≡ item.bytes 2 d ∷ itemsAt s n
+      → EntrySeen (entry (items d)) (seen.Fine key) → Told s n expect (withKey keys key)
   unfolding lastFrom among entries everyBytes entriesFit EntrySeen
-  entered d n more h e = let q : entriesAt 2 s at ≡ entry (items d) ∷ entriesAt 2 s n = found-entries n (item.bytes 2 d) h in record {
+  entered d n key h e = let q : entriesAt 2 s at ≡ entry (items d) ∷ entriesAt 2 s n = found-entries n (item.bytes 2 d) h in record {
     flag = g .flag;
     flag-is = g .flag-is;
     flags = moves n (item.bytes 2 d) h 3 3 (g .flag) (g .flags);
@@ -189,7 +190,7 @@ module _ {s : List ℕ} {at : ℕ} {expect : Bool} {keys : Keys} (g : Told s at 
     date-fits = g .date-fits;
     dates = moves n (item.bytes 2 d) h 1 1 (g .date) (g .dates);
     fits = ap (λ (t : Bool). both t (entriesFit (entriesAt 2 s n))) (sym (e .0)) ∙ ap entriesFit (sym q) ∙ g .fits;
-    each = λ k l. key-past k (subst (λ (es : List Entry). KeyAt k (isMet k keys) es (entries 2 (items s))) q (g .each k l)) (e .1 k l);
+    each = λ k l. key-past k key keys l (subst (λ (es : List Entry). KeyAt k (isMet k keys) es (entries 2 (items s))) q (g .each k l)) (e .1 k l);
   }
 
   pub finish : length s ≤ at → ((k : ℕ) → k < 4 → isMet k keys ≡ true) → Summarised s (summary.Sound expect)

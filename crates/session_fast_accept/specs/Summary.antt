@@ -55,15 +55,15 @@ unfoldable pub isMet : ℕ → Keys → Bool
 isMet k keys =
     pick (eqb k 0) (keys .command) (pick (eqb k 1) (keys .runuser) (pick (eqb k 2) (keys .submithost) (keys .submituser)))
 
--- the required key k at the entry e: it is met where it was or where e has it, and then e is a string
-pub record Passed (e : Entry) (k : ℕ) (was is : Bool) : Type 0 where
-  pub met : is ≡ pick (sameBytes (e .key) (keyBytes k)) true was
+-- the required key k at the entry e, of whose key n is the number: e has k where that is its number, and then e is a string
+pub record Passed (e : Entry) (n k : ℕ) : Type 0 where
+  pub named : sameBytes (e .key) (keyBytes k) ≡ eqb n k
   pub string : pick (sameBytes (e .key) (keyBytes k)) (stringOrNone (e .value)) true ≡ true
 
 -- an entry that is fine is in range, and each of the four keys passes it. Nothing is said of another.
-unfoldable pub EntrySeen : Entry → Keys → Seen → Type 0
-EntrySeen e keys (seen.Fine now) = (entryFits e ≡ true) × ((k : ℕ) → k < 4 → Passed e k (isMet k keys) (isMet k now))
-EntrySeen e keys seen.Other = Unit
+unfoldable pub EntrySeen : Entry → Seen → Type 0
+EntrySeen e (seen.Fine n) = (entryFits e ≡ true) × ((k : ℕ) → k < 4 → Passed e n k)
+EntrySeen e seen.Other = Unit
 
 -- is it a string
 unfoldable pub isString : Value → Bool
@@ -74,5 +74,5 @@ isString (strlistval l) = false
 isString (numlistval l) = false
 
 -- what the key d shows by itself of each entry whose value passes the test
-unfoldable pub KeySeen : (Value → Bool) → Bytes → Keys → Seen → Type 0
-KeySeen test d keys r = (v : Value) → test v ≡ true → EntrySeen (record { key = d; value = v }) keys r
+unfoldable pub KeySeen : (Value → Bool) → Bytes → Seen → Type 0
+KeySeen test d r = (v : Value) → test v ≡ true → EntrySeen (record { key = d; value = v }) r

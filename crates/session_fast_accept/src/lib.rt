@@ -27,9 +27,10 @@ pub struct Keys {
     pub submituser: bool,
 }
 
-// These keys past one more entry, which is in range and a string where it has one of them; nothing is said of another.
+// An entry that is in range, and a string where its key is a required one: the number of its key; nothing is said of another. It is a
+// number and not the keys met so far, so that those stay where they are while an entry is looked at.
 pub enum Seen {
-    Fine(Keys),
+    Fine(u8),
     Other,
 }
 
@@ -114,39 +115,39 @@ fn all_met(keys: Keys) -> bool
 }
 
 // What an entry's key, which ends at `key`, shows where the value is a string.
-fn string_seen(keys: Keys, s: &[u8], key: usize) -> Seen
+fn string_seen(s: &[u8], key: usize) -> Seen
     requires { ⌜ key ≤ length (now s) ⌝ }
-    ensures { λ r. ⌜ KeySeen isString (part (now (s .entry)) 2 key) keys r ⌝ }
+    ensures { λ r. ⌜ KeySeen isString (part (now (s .entry)) 2 key) r ⌝ }
 {
     if 2 < key {
-        return Seen::Fine(with_key(keys, key_number(&s[2..key])));
+        return Seen::Fine(key_number(&s[2..key]));
     }
     Seen::Other
 }
 
 // What it shows where the value is of any type: an entry with a required key is left to the general way.
-fn other_seen(keys: Keys, s: &[u8], key: usize) -> Seen
+fn other_seen(s: &[u8], key: usize) -> Seen
     requires { ⌜ key ≤ length (now s) ⌝ }
-    ensures { λ r. ⌜ KeySeen isSet (part (now (s .entry)) 2 key) keys r ⌝ }
+    ensures { λ r. ⌜ KeySeen isSet (part (now (s .entry)) 2 key) r ⌝ }
 {
     if 2 < key {
         if key_number(&s[2..key]) == 4 {
-            return Seen::Fine(keys);
+            return Seen::Fine(4);
         }
         return Seen::Other;
     }
     Seen::Other
 }
 
-// What an entry adds to the keys of those before it.
-fn entry_seen(keys: Keys, s: &[u8]) -> Seen
-    ensures { λ r. ⌜ EntrySeen (m.entry (items (now (s .entry)))) keys r ⌝ }
+// What an entry shows.
+fn entry_seen(s: &[u8]) -> Seen
+    ensures { λ r. ⌜ EntrySeen (m.entry (items (now (s .entry)))) r ⌝ }
 {
     match plain_entry(s) {
-        Plain::Number { key, value: _ } => other_seen(keys, s, key),
-        Plain::Text { key, start: _ } => string_seen(keys, s, key),
-        Plain::Texts { key, start: _ } => other_seen(keys, s, key),
-        Plain::Numbers { key, start: _ } => other_seen(keys, s, key),
+        Plain::Number { key, value: _ } => other_seen(s, key),
+        Plain::Text { key, start: _ } => string_seen(s, key),
+        Plain::Texts { key, start: _ } => other_seen(s, key),
+        Plain::Numbers { key, start: _ } => other_seen(s, key),
         Plain::Other => Seen::Other,
     }
 }
@@ -201,9 +202,9 @@ pub fn summary_in(s: &[u8]) -> Summary
             match part_found(s, at + 1) {
                 Found::Part { start, end } => {
                     if tag == 18 {
-                        match entry_seen(keys, &s[start..end]) {
+                        match entry_seen(&s[start..end]) {
                             Seen::Fine(k) => {
-                                keys = k;
+                                keys = with_key(keys, k);
                                 at = end;
                             }
                             Seen::Other => {

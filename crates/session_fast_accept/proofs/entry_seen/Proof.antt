@@ -35,25 +35,25 @@ returns : tie.Need-returns
 unfolding Formed entry lastFrom among bytesOf valueOf isSet
 returns c = let p = c .before .before .before .before in
     let k = c .before .before .key .given in
-    by-value (subst (Formed (p .before .before .args .s .now)) (k .1) (p .plain-entry .ensures) .0) isSet _ _ _ refl refl (c .other-seen .ensures)
+    by-value (subst (Formed (p .before .before .args .s .now)) (k .1) (p .plain-entry .ensures) .0) isSet _ _ refl refl (c .other-seen .ensures)
 
 returns-2 : tie.Need-returns-2
 unfolding Formed entry lastFrom among bytesOf valueOf isString
 returns-2 c = let p = c .before .before .before .before in
     let k = c .before .before .key2 .given in
-    by-value (subst (Formed (p .before .before .args .s .now)) (k .1) (p .plain-entry .ensures) .0 .holds) isString _ _ _ refl refl (c .string-seen .ensures)
+    by-value (subst (Formed (p .before .before .args .s .now)) (k .1) (p .plain-entry .ensures) .0 .holds) isString _ _ refl refl (c .string-seen .ensures)
 
 returns-3 : tie.Need-returns-3
 unfolding Formed entry lastFrom among bytesOf valueOf isSet
 returns-3 c = let p = c .before .before .before .before in
     let k = c .before .before .key3 .given in
-    by-value (subst (Formed (p .before .before .args .s .now)) (k .1) (p .plain-entry .ensures) .0 .holds) isSet _ _ _ refl refl (c .other-seen2 .ensures)
+    by-value (subst (Formed (p .before .before .args .s .now)) (k .1) (p .plain-entry .ensures) .0 .holds) isSet _ _ refl refl (c .other-seen2 .ensures)
 
 returns-4 : tie.Need-returns-4
 unfolding Formed entry lastFrom among bytesOf valueOf isSet
 returns-4 c = let p = c .before .before .before .before in
     let k = c .before .before .key4 .given in
-    by-value (subst (Formed (p .before .before .args .s .now)) (k .1) (p .plain-entry .ensures) .0 .holds) isSet _ _ _ refl refl (c .other-seen3 .ensures)
+    by-value (subst (Formed (p .before .before .args .s .now)) (k .1) (p .plain-entry .ensures) .0 .holds) isSet _ _ refl refl (c .other-seen3 .ensures)
 
 returns-5 : tie.Need-returns-5
 unfolding EntrySeen

@@ -12,7 +12,7 @@ returns : tie.Need-returns
 returns c = let k = c .before in
     let a = k .before .before .before .before .args in
     let l = length-part (a .s .now) 2 (a .key) (omega arith) (omega arith) in
-    other-passes _ _ (omega arith) (sym (k .key-number .ensures) ∙ c .if2 .taken)
+    other-passes _ (omega arith) (sym (k .key-number .ensures) ∙ c .if2 .taken)
 
 returns-2 : tie.Need-returns-2
 unfolding KeySeen EntrySeen

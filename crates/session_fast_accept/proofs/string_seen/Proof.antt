@@ -1,4 +1,4 @@
--- Hands the key's length, by `length-part`, and what `key_number` and `with_key` ensure to `string-passes`; of `Other` nothing is claimed.
+-- Hands the key's length, by `length-part`, and what `key_number` ensures to `string-passes`; of `Other` nothing is claimed.
 use native.Mathlib.Omega.{arith}
 use Rattle.base_laws.proofs.Parts.{length-part}
 use Rattle.session_fast_accept.specs.Summary.{EntrySeen, KeySeen}
@@ -8,10 +8,10 @@ use Rattle.session_fast_accept.proofs.string_seen.Statement.{statement}
 use Rattle.session_fast_accept.proofs.string_seen.Tie as tie
 
 returns : tie.Need-returns
-returns c = let k = c .before in
-    let a = k .before .before .before .before .args in
+returns c =
+    let a = c .before .before .before .before .args in
     let l = length-part (a .s .now) 2 (a .key) (omega arith) (omega arith) in
-    rw (c .with-key .ensures, k .key-number .ensures) (string-passes _ _ (omega arith))
+    rw (c .key-number .ensures) (string-passes _ (omega arith))
 
 returns-2 : tie.Need-returns-2
 unfolding KeySeen EntrySeen
@@ -24,7 +24,6 @@ string-seen-spec =
     (λ c. search needs)
     (λ c. search needs)
     (λ c. search needs)
-    (λ c κs. search needs)
     (λ c κs. search needs)
     returns
     returns-2)

@@ -87,7 +87,7 @@ part-entry-seen-end c = let q = c .before .before in
     let z = part-in-bounds s (at + 1) (omega arith) h in omega arith
 
 loop-less-2 : tie.Need-loop-less-2 Inv-loop μ-loop
-loop-less-2 c = let q = c .before .before .before .before .before .before .before in
+loop-less-2 c = let q = c .before .before .before .before .before .before .before .before in
     let p = q .before .before in
     let w = p .before .before in
     let l = w .before .before in
@@ -98,18 +98,18 @@ loop-less-2 c = let q = c .before .before .before .before .before .before .befor
 
 loop-again-2 : tie.Need-loop-again-2 Inv-loop μ-loop
 unfolding tagOf tagFits
-loop-again-2 c = let q = c .before .before .before .before .before .before .before in
+loop-again-2 c = let q = c .before .before .before .before .before .before .before .before in
     let p = q .before .before in
     let w = p .before .before in
     let l = w .before .before in
     let at = l .before .loop .at in
     let s = l .before .before .before .args .s .now in
     let h = found-part s (at + 1) _ (p .part-found .ensures) _ _ (q .start .given .1) in
-    let e = c .before .before .before in
-    let k = c .before .k .given in
+    let e = c .before .before .before .before in
+    let k = c .before .before .k .given in
     let tag = sym (w .wide .ensures) ∙ e .before .before .if2 .taken in
-    entered (l .before .loop .inv) _ _ _ (part-item s at (l .loop-test .taken) 18 2 2 tag (lit≤ tt) (λ x. refl) refl h)
-    (subst (EntrySeen _ _) (k .1) (e .entry-seen .ensures))
+    let past = entered (l .before .loop .inv) _ _ _ (part-item s at (l .loop-test .taken) 18 2 2 tag (lit≤ tt) (λ x. refl) refl h) (subst (EntrySeen _) (k .1) (e .entry-seen .ensures)) in
+    subst (Told s _ _) (sym (c .with-key .ensures)) past
 
 returns-4 : tie.Need-returns-4 Inv-loop μ-loop
 unfolding Summarised
@@ -215,6 +215,7 @@ summary-in-spec =
     part-entry-seen-end
     (λ c κs. search needs)
     (λ c. search needs)
+    (λ c κs. search needs)
     loop-less-2
     loop-again-2
     (λ c. search needs)
