@@ -63,39 +63,12 @@ fn key_number(a: &[u8]) -> u8
 fn with_key(keys: Keys, k: u8) -> Keys
     ensures { λ r. ⌜ r ≡ withKey keys k ⌝ }
 {
-    if k == 0 {
-        return Keys {
-            command: true,
-            runuser: keys.runuser,
-            submithost: keys.submithost,
-            submituser: keys.submituser,
-        };
+    Keys {
+        command: keys.command | (k == 0),
+        runuser: keys.runuser | (k == 1),
+        submithost: keys.submithost | (k == 2),
+        submituser: keys.submituser | (k == 3),
     }
-    if k == 1 {
-        return Keys {
-            command: keys.command,
-            runuser: true,
-            submithost: keys.submithost,
-            submituser: keys.submituser,
-        };
-    }
-    if k == 2 {
-        return Keys {
-            command: keys.command,
-            runuser: keys.runuser,
-            submithost: true,
-            submituser: keys.submituser,
-        };
-    }
-    if k == 3 {
-        return Keys {
-            command: keys.command,
-            runuser: keys.runuser,
-            submithost: keys.submithost,
-            submituser: true,
-        };
-    }
-    keys
 }
 
 // Are all four met.

@@ -1,29 +1,27 @@
--- Hands the tests, in their order, to `withKey`, by `ne-eqb` where all four fail.
-use mathlib.Core.Path.{refl}
-use borrow.Author.Tests.{ne-eqb}
+-- Each flag is that of `withKey`, by `met-or`.
+use mathlib.Core.Path.{_≡_, refl}
+use mathlib.Core.Bool.{Bool, true, false, _||_}
+use lib.Dec.{eqb}
+use Rattle.base_laws.specs.Base.{pick}
 use Rattle.session_fast_accept.specs.Summary.{withKey}
 use Rattle.session_fast_accept.proofs.with_key.Statement.{statement}
 use Rattle.session_fast_accept.proofs.with_key.Tie as tie
 
+met-or : (was is : Bool) → was || is ≡ pick is true was
+met-or true true = refl
+met-or true false = refl
+met-or false true = refl
+met-or false false = refl
+
 returns : tie.Need-returns
 unfolding withKey
-returns c = rw (c .if1 .taken) refl
-
-returns-2 : tie.Need-returns-2
-unfolding withKey
-returns-2 c = rw (c .if2 .taken) refl
-
-returns-3 : tie.Need-returns-3
-unfolding withKey
-returns-3 c = rw (c .if3 .taken) refl
-
-returns-4 : tie.Need-returns-4
-unfolding withKey
-returns-4 c = rw (c .if4 .taken) refl
-
-returns-5 : tie.Need-returns-5
-unfolding withKey
-returns-5 c = rw (ne-eqb _ 0 (c .before .before .before .if1 .left), ne-eqb _ 1 (c .before .before .if2 .left), ne-eqb _ 2 (c .before .if3 .left), ne-eqb _ 3 (c .if4 .left)) refl
+returns c = let a = c .before .before .before .before .args in
+    λ j. record {
+      command = met-or (a .keys .command) (eqb (a .k) 0) j;
+      runuser = met-or (a .keys .runuser) (eqb (a .k) 1) j;
+      submithost = met-or (a .keys .submithost) (eqb (a .k) 2) j;
+      submituser = met-or (a .keys .submituser) (eqb (a .k) 3) j;
+    }
 
 pub with-key-spec : {M : Type 1} → statement M
-with-key-spec = tie.close (tie.spec returns returns-2 returns-3 returns-4 returns-5)
+with-key-spec = tie.close (tie.spec returns)
