@@ -3,21 +3,19 @@
  *
  * The first part declares what libsudolog.a exports: functions on numbers and byte slices (a pointer
  * and a length). None of them trusts its caller: every slice of every length has an answer, nothing is
- * kept between calls, nothing is allocated, and a refusal writes nothing. No pointer may be NULL, even
- * with length 0: where one might be, SUDOLOG_LEND and its like, in the second part, lend it. The functions
- * that give values are meant for slices that sudolog_decode or sudolog_read takes; of any other slice they
- * give those of the fields before the first that can't be read. Message number 16 names what a packed list
- * of numbers holds, varints and no fields; a number above 16 a message with no fields: all are skipped.
+ * kept between calls, nothing is allocated, and a refusal writes nothing, but that a session's own 40 bytes
+ * are closed by one, and its answer is laid in `out`. The slices of one call must not overlap. No pointer
+ * may be NULL, even with length 0: where one might be, SUDOLOG_LEND and its like, in the second part, lend
+ * it. The functions that give values are meant for slices that sudolog_decode or sudolog_read takes; of any
+ * other slice they give those of the fields before the first that can't be read. Message number 16 names
+ * what a packed list of numbers holds, varints and no fields; a number above 16 a message with no fields:
+ * all are skipped.
  *
  * The second part is written over the first, in C: a struct for each message of sudo_logsrv.proto and
  * a reader that fills it, and what a C program needs beside the writers. There a slice whose pointer is NULL
  * is an empty one, whatever length is given with it.
  *
- * Refusals are document 01's numbers (docs/FORMAT.md has the table): 1 frame or message too long, 2 varint,
- * 3 length past the end, 4 bad tag or wire type, 5 known field with another wire type, 6 no member, 7 out
- * of range, 8 required entry missing, 9 not this state's turn, 10 total too great, 11 delay zero at a restart
- * point, 12 no room in the buffer or area that was lent, 13 restart of a finished file, 14 no beginning has
- * the resume point, 15 no valid file or wrong lengths. 0 says: no refusal.
+ * Refusals are document 01's numbers, enum sudolog_refusal (docs/FORMAT.md has the table); 0 says: no refusal.
  */
 #ifndef SUDOLOG_H
 #define SUDOLOG_H
@@ -30,6 +28,41 @@
 #ifdef __cplusplus
 extern "C" {
 #endif
+
+/* The library that this header belongs to. It changes whenever a call does: a program that finds another
+ * number in the archive was compiled for another one.
+ *
+ *   if (sudolog_version() != SUDOLOG_VERSION)
+ *       stop; */
+#define SUDOLOG_VERSION 1
+
+/* Document 01's limits, and what a host plans its memory by. */
+#define SUDOLOG_MESSAGE_MAX 2097152      /* a message's bytes */
+#define SUDOLOG_FRAME_MAX 2097156        /* with its frame's four */
+#define SUDOLOG_AREA_MAX 1073741824      /* an area's bytes */
+#define SUDOLOG_SESSION_SIZE 40          /* a session's bytes */
+#define SUDOLOG_ANSWER_SIZE 40           /* the room that sudolog_session_message and sudolog_client want */
+#define SUDOLOG_RECORD_EXTRA 13          /* a stored record is at most so much longer than its message */
+
+/* Why something was refused. sudolog_refusal_text says it in words. */
+enum sudolog_refusal {
+    SUDOLOG_TAKEN = 0,                /* no refusal */
+    SUDOLOG_TOO_LONG = 1,             /* a frame's or a message's length is above its limit */
+    SUDOLOG_BAD_VARINT = 2,           /* a varint ends past its part, or is too long */
+    SUDOLOG_PAST_END = 3,             /* a length or a fixed field goes past the end */
+    SUDOLOG_BAD_TAG = 4,              /* a tag that is none, or an unknown wire type */
+    SUDOLOG_OTHER_WIRE_TYPE = 5,      /* a known field with another wire type */
+    SUDOLOG_NO_MEMBER = 6,            /* a ClientMessage or ServerMessage that holds nothing */
+    SUDOLOG_OUT_OF_RANGE = 7,         /* a value outside its range */
+    SUDOLOG_ENTRY_MISSING = 8,        /* command, runuser, submithost or submituser is not there */
+    SUDOLOG_NOT_ITS_TURN = 9,         /* the session's state does not take this message */
+    SUDOLOG_TOTAL_TOO_GREAT = 10,     /* the delays' sum would pass its limit */
+    SUDOLOG_ZERO_AT_RESTART = 11,     /* a delay of zero right after a restart */
+    SUDOLOG_NO_ROOM = 12,             /* the buffer or the area that was lent is full */
+    SUDOLOG_FINISHED_FILE = 13,       /* a restart of a file that has its exit */
+    SUDOLOG_NO_SUCH_POINT = 14,       /* no beginning of the file has the resume point */
+    SUDOLOG_NO_VALID_FILE = 15        /* the used bytes are no file, or the lengths are wrong */
+};
 
 /* The messages of sudo_logsrv.proto. */
 enum sudolog_message {
@@ -58,7 +91,7 @@ enum sudolog_frame {
     SUDOLOG_FRAME_WAIT = 2     /* too few bytes to decide yet */
 };
 
-/* What the used bytes of an area are: what sudolog_check_file returns. */
+/* What the used bytes of an area are: what sudolog_check_file returns. Its 1 is no refusal. */
 enum sudolog_file {
     SUDOLOG_FILE_UNFINISHED = 0, /* a valid file without an exit */
     SUDOLOG_FILE_FINISHED = 1,   /* a valid file with its exit */
@@ -66,6 +99,9 @@ enum sudolog_file {
 };
 
 /* ---- exported by the library ---- */
+
+/* The number that SUDOLOG_VERSION had when this archive was made. */
+uint64_t sudolog_version(void);
 
 /* The frame at the start of s: one of enum sudolog_frame. */
 uint8_t sudolog_frame_state(const uint8_t *s, size_t n);
@@ -153,7 +189,7 @@ uint64_t sudolog_write_server_hello(uint64_t member, const uint8_t *server_id, s
                                     uint8_t framed, uint8_t *out, size_t room);
 /* A TimeSpec: member 0 by itself, with no range; 2 a ServerMessage's commit_point, with its range. */
 uint64_t sudolog_write_time(uint64_t member, uint64_t seconds, uint64_t nanos, uint8_t framed, uint8_t *out, size_t room);
-/* A ServerMessage's log_id (member 3), error (4) or abort (5). */
+/* A ServerMessage's log_id (member 3), error (4) or abort (5). Such a string is no message by itself: member 0 is 7. */
 uint64_t sudolog_write_note(uint64_t member, const uint8_t *text, size_t text_n, uint8_t framed, uint8_t *out, size_t room);
 uint64_t sudolog_write_string_list(const uint8_t *strings, size_t strings_n, const size_t *ends, size_t ends_n,
                                    uint8_t framed, uint8_t *out, size_t room);
@@ -190,8 +226,9 @@ uint8_t sudolog_session_open(uint8_t *session, size_t session_n);
  * session and leaves the area as it was. In `out` five numbers of 8 bytes, most significant byte first: the used
  * length afterwards; the key that refusal 8 names (0 command, 1 runuser, 2 submithost, 3 submituser), otherwise
  * 0; whether the answer has a commit point, 1 or 0; the point in nanoseconds, otherwise 0; the state that the
- * session is in. Where `room` is below 40 the answer is 12 and nothing is done. A record that is stored costs
- * time in its own length; a restart one pass over the file's record headers. */
+ * session is in. Where `room` is below 40 the answer is 12 before the message is looked at, the session is closed,
+ * and `out` stays as it was. A record that is stored costs time in its own length; a restart one pass over the
+ * file's record headers. */
 uint8_t sudolog_session_message(uint8_t *session, size_t session_n, const uint8_t *message, size_t n,
                                 uint8_t *area, size_t area_n, size_t used, uint8_t *out, size_t room);
 
@@ -785,6 +822,30 @@ static inline size_t sudolog_written_size(uint64_t written)
     return (size_t)(written & UINT32_MAX);
 }
 
+/* A refusal in words, for a log; of a number that is none, too. */
+static inline const char *sudolog_refusal_text(int refusal)
+{
+    switch (refusal) {
+    case SUDOLOG_TAKEN: return "no refusal";
+    case SUDOLOG_TOO_LONG: return "frame or message too long";
+    case SUDOLOG_BAD_VARINT: return "broken varint";
+    case SUDOLOG_PAST_END: return "length past the end";
+    case SUDOLOG_BAD_TAG: return "bad tag or wire type";
+    case SUDOLOG_OTHER_WIRE_TYPE: return "known field with another wire type";
+    case SUDOLOG_NO_MEMBER: return "message with no member";
+    case SUDOLOG_OUT_OF_RANGE: return "value outside its range";
+    case SUDOLOG_ENTRY_MISSING: return "required entry missing";
+    case SUDOLOG_NOT_ITS_TURN: return "not this state's turn";
+    case SUDOLOG_TOTAL_TOO_GREAT: return "total too great";
+    case SUDOLOG_ZERO_AT_RESTART: return "delay zero at a restart point";
+    case SUDOLOG_NO_ROOM: return "no room";
+    case SUDOLOG_FINISHED_FILE: return "restart of a finished file";
+    case SUDOLOG_NO_SUCH_POINT: return "no beginning of the file has the resume point";
+    case SUDOLOG_NO_VALID_FILE: return "no valid file, or wrong lengths";
+    default: return "no refusal of document 01";
+    }
+}
+
 /* A writer's refusal, 0 for none. */
 static inline int sudolog_written_refusal(uint64_t written)
 {
@@ -824,7 +885,7 @@ enum sudolog_state {
 };
 
 struct sudolog_session {
-    uint8_t bytes[40];
+    uint8_t bytes[SUDOLOG_SESSION_SIZE];
 };
 
 /* What sudolog_take_message returns beside the refusal. */

@@ -131,43 +131,41 @@ static struct file *file_for(struct host *host, const uint8_t *m, size_t n)
     return NULL;
 }
 
-/* Lends a file to a connection. Another one that still has it was given up by its client. */
+/* Lends a file to a connection whose message was taken. Another one that still has it was given up by its client. */
 static void lend_file(struct connection *c, struct file *file)
 {
-    if (file != NULL && file->user != NULL)
+    if (file->user != NULL && file->user != c)
         hang_up(file->user);
-    if (file != NULL)
-        file->user = c;
+    file->user = c;
     c->file = file;
 }
 
-/* Hands a message to the session, over its file or over no area at all, and keeps the used length. */
-static int hand_over(struct connection *c, const uint8_t *m, size_t n, struct sudolog_answer *out)
+/* Hands a message to the session, over a file or over no area at all, and keeps the used length. */
+static int hand_over(struct connection *c, struct file *file, const uint8_t *m, size_t n, struct sudolog_answer *out)
 {
     int refusal;
-    if (c->file == NULL)
+    if (file == NULL)
         return sudolog_take_message(&c->session, m, n, NULL, 0, 0, out);
-    refusal = sudolog_take_message(&c->session, m, n, c->file->area, AREA, c->file->used, out);
-    c->file->used = out->used;
+    refusal = sudolog_take_message(&c->session, m, n, file->area, AREA, file->used, out);
+    file->used = out->used;
     return refusal;
 }
 
 /* One whole message of a connection. */
 static void take_message(struct connection *c, const uint8_t *m, size_t n)
 {
+    struct file *file = c->file != NULL ? c->file : file_for(c->host, m, n);
+    bool begins = file != NULL && file->used == 0;
     struct sudolog_answer out;
-    bool begins;
-    int refusal;
-    if (c->file == NULL)
-        lend_file(c, file_for(c->host, m, n));
-    begins = c->file != NULL && c->file->used == 0;
-    refusal = hand_over(c, m, n, &out);
+    int refusal = hand_over(c, file, m, n, &out);
     if (refusal != 0) {
         refuse(c, refusal);
         return;
     }
+    if (file != NULL)
+        lend_file(c, file);
     if (begins)
-        send_note(c, SUDOLOG_FROM_SERVER_LOG_ID, c->file->log_id);
+        send_note(c, SUDOLOG_FROM_SERVER_LOG_ID, file->log_id);
     if (out.has_point)
         send_point(c, out.point);
     if (out.state == SUDOLOG_STATE_CLOSED)

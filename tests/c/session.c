@@ -187,7 +187,7 @@ static void test_no_sessions(void)
     test_no_session(39, 1);  /* a point where none stands */
 }
 
-/* Slices of another length than 40 hold no session, and stay as they are. */
+/* Slices of another length than 40 hold no session, and stay as they are. An answer without room closes the session and does no more. */
 static void test_lengths(void)
 {
     uint8_t slice[64], out[64];
@@ -210,6 +210,7 @@ static void test_lengths(void)
         before = h;
         memset(out, 0xEE, sizeof out);
         CHECK(sudolog_session_message(h.session.bytes, 40, h.message, h.n, h.area, AREA, 0, out, n) == 12);
+        before.session.bytes[7] = SUDOLOG_STATE_CLOSED; /* as by every refusal */
         CHECK(memcmp(&h, &before, sizeof h) == 0 && out[0] == 0xEE);
     }
 }

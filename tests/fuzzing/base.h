@@ -120,7 +120,7 @@ static void set_traps(const char *name)
 enum fault {
     NO_FAULT, READ_PAST, READ_BEFORE, WRITE_INPUT, WRITE_PAST, WRITE_BEFORE, WRITE_SLACK, WRITE_REFUSED, OTHER_VALUE,
     OTHER_SIZE, UNSTEADY, AREA_REFUSED, OPEN_REFUSED, USED_REFUSED, OTHER_NUMBER, OTHER_RECORD, OTHER_POINT, TICK_TOTAL,
-    RESTART_REFUSED, FILE_OPEN, FRAME_EARLY, OTHER_MEMBER, LIST_STOPS, NO_ROOM_DONE, FAULTS
+    RESTART_REFUSED, FILE_OPEN, FRAME_EARLY, OTHER_MEMBER, LIST_STOPS, NO_ROOM_OPEN, FAULTS
 };
 
 static const char *const faults[FAULTS] = {
@@ -147,7 +147,7 @@ static const char *const faults[FAULTS] = {
     "frame-early",     /* a frame is whole one byte early */
     "other-member",    /* the one walk finds another member */
     "list-stops",      /* a list ends before its last element */
-    "no-room-done",    /* a message is taken though its answer has no room */
+    "no-room-open",    /* the session stays open though its answer has no room */
 };
 
 static enum fault fault;

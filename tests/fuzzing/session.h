@@ -31,8 +31,8 @@ static int ask_session(size_t session_n, size_t area_n, size_t used, size_t room
         change(out + 31, 1);
     if (fault == RESTART_REFUSED && refusal == 0 && session_n == 40 && session[7] == 10 && !logging)
         refusal = 14;
-    if (fault == NO_ROOM_DONE && room < 40 && session_n == 40)
-        session[7] = SUDOLOG_STATE_CLOSED;
+    if (fault == NO_ROOM_OPEN && room < 40 && session_n == 40)
+        memcpy(session, host.session, 40);
     return refusal;
 }
 
@@ -73,6 +73,11 @@ static void hand_once(const struct outcome *o, size_t session_n, size_t area_n, 
     if (room < 40) {
         HOLDS(refusal == 12 && all_are(held(&answer), room, FILL) && margin_holds(&answer), "without room the answer is 12");
         HOLDS(memcmp(held(&kept_area), host.area, area_n) == 0 && margin_holds(&kept_area), "and nothing is stored");
+        if (session_n == 40) {
+            struct saved closed = saved_in(host.session, session_n);
+            closed.state = SUDOLOG_STATE_CLOSED;
+            put_saved(&closed, bytes);
+        }
     } else {
         HOLDS(refusal == o->refusal, "the refusal is the model's");
         check_answer(o, room);

@@ -1,12 +1,14 @@
 -- A message in a session that a slice keeps: the answer, the slice, the area and the numbers laid.
-use Prim.Native.Nat.{ℕ, _≤_, _<_}
-use mathlib.Core.Path.{_≡_, sym, ap, _∙_}
+use Prim.Native.Nat.{ℕ}
+use mathlib.Core.Path.{_≡_, ap, _∙_}
+use mathlib.Core.Bool.{Bool}
 use mathlib.Core.List.{[], _∷_}
 use lib.ListN.{length}
-use borrow.Author.Tests.{le-leb, lt-leb}
+use lib.Dec.{leb}
+use Rattle.base_laws.specs.Base.{pick}
 use Rattle.wire_message.specs.Message.{Bytes}
 use Rattle.base_numbers.specs.Eight.{laid}
-use Rattle.session.specs.Step.{Outcome, outcome, step}
+use Rattle.session.specs.Step.{Outcome, outcome, refuse, step}
 use Rattle.session.specs.declared.Session.{Session}
 use Rattle.session.specs.declared.Answer.{Answer}
 use Rattle.session_bytes.specs.Saved.{stateNumber, sessionOf, kept}
@@ -20,31 +22,28 @@ module _ (slice message area : Bytes) (used : ℕ) (out : Bytes) where
       × ((slice′ ≡ messageSlice slice message area used out)
       × ((area′ ≡ messageArea slice message area used out) × (out′ ≡ messageOut slice message area used out)))
 
-  pub no-room : length out < 40 → Answered 12 slice area out
-  unfolding messageAnswer messageSlice messageArea messageOut laid answerNumbers
-  no-room h = (rw (lt-leb 40 (length out) h), (rw (lt-leb 40 (length out) h), (rw (lt-leb 40 (length out) h), rw (lt-leb 40 (length out) h))))
-
-  module _ (se : Session) (a : Answer) (slice′ area′ out′ : Bytes) (loaded : se ≡ sessionOf slice) (gives : outcome a area′ ≡ step se area used message) where
+  module _ (se : Session) (room : Bool) (a : Answer) (slice′ area′ out′ : Bytes) (loaded : se ≡ sessionOf slice) (has-room : room ≡ leb 40 (length out))
+      (gives : outcome a area′ ≡ pick room (step se area used message) (refuse se area used 12 0)) where
     is : outcome a area′ ≡ stepped slice message area used out
     unfolding stepped
-    is = gives ∙ ap (λ (x : Session). step x area used message) loaded
+    is = gives ∙ ap (λ (x : Session). pick room (step x area used message) (refuse x area used 12 0)) loaded
+        ∙ ap (λ (b : Bool). pick b (step (sessionOf slice) area used message) (refuse (sessionOf slice) area used 12 0)) has-room
 
-    pub answered : 40 ≤ length out → (p q n : ℕ) → slice′ ≡ kept (a .session) slice
+    pub answered : (p q n : ℕ) → slice′ ≡ kept (a .session) slice
         → p ≡ hasPoint (a .point) → q ≡ pointNumber (a .point) → n ≡ stateNumber (a .session .state)
         → out′ ≡ laid (a .used ∷ a .key ∷ p ∷ q ∷ n ∷ []) out → Answered (a .refusal) slice′ area′ out′
     unfolding messageAnswer messageSlice messageArea messageOut answerNumbers
-    answered h p q n saved has point state laying =
-        let room = le-leb 40 (length out) h in (
-          ap (λ (o : Outcome). o .refusal) is ∙ sym (rw room),
-          (
-            saved ∙ ap (λ (o : Outcome). kept (o .session) slice) is ∙ sym (rw room),
-            (
-              ap (λ (o : Outcome). o .area) is ∙ sym (rw room),
-              laying
-                  ∙ ap (λ (x : ℕ). laid (a .used ∷ a .key ∷ x ∷ q ∷ n ∷ []) out) has
-                  ∙ ap (λ (x : ℕ). laid (a .used ∷ a .key ∷ hasPoint (a .point) ∷ x ∷ n ∷ []) out) point
-                  ∙ ap (λ (x : ℕ). laid (a .used ∷ a .key ∷ hasPoint (a .point) ∷ pointNumber (a .point) ∷ x ∷ []) out) state
-                  ∙ ap (λ (o : Outcome). laid (answerNumbers o) out) is,
-            ),
-          ),
-        )
+    answered p q n saved has point state laying = (
+      ap (λ (o : Outcome). o .refusal) is,
+      (
+        saved ∙ ap (λ (o : Outcome). kept (o .session) slice) is,
+        (
+          ap (λ (o : Outcome). o .area) is,
+          laying
+              ∙ ap (λ (x : ℕ). laid (a .used ∷ a .key ∷ x ∷ q ∷ n ∷ []) out) has
+              ∙ ap (λ (x : ℕ). laid (a .used ∷ a .key ∷ hasPoint (a .point) ∷ x ∷ n ∷ []) out) point
+              ∙ ap (λ (x : ℕ). laid (a .used ∷ a .key ∷ hasPoint (a .point) ∷ pointNumber (a .point) ∷ x ∷ []) out) state
+              ∙ ap (λ (o : Outcome). laid (answerNumbers o) out) is,
+        ),
+      ),
+    )

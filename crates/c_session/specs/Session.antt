@@ -6,7 +6,7 @@ use lib.Dec.{leb}
 use Rattle.base_laws.specs.Base.{pick}
 use Rattle.wire_message.specs.Message.{Bytes}
 use Rattle.base_numbers.specs.Eight.{laid}
-use Rattle.session.specs.Step.{Outcome, step}
+use Rattle.session.specs.Step.{Outcome, refuse, step}
 use Rattle.session.specs.declared.Point.{Point}
 use Rattle.session.specs.declared.Point.the-variants as point
 use Rattle.session.specs.declared.FileCheck.{FileCheck}
@@ -26,19 +26,20 @@ pointNumber (point.At t) = t
 unfoldable pub answerNumbers : Outcome → List ℕ
 answerNumbers o = o .used ∷ o .key ∷ hasPoint (o .point) ∷ pointNumber (o .point) ∷ stateNumber (o .session .state) ∷ []
 
--- one message, where the five numbers have room in `out`; else 12 and nothing is done
+-- one message. Where its five numbers have no room in `out` it is refused with 12 and not looked at: this 12 is of the call's own room, and
+-- comes before all other refusals
 module _ (slice message area : Bytes) (used : ℕ) (out : Bytes) where
   unfoldable pub stepped : Outcome
-  stepped = step (sessionOf slice) area used message
+  stepped = pick (leb 40 (length out)) (step (sessionOf slice) area used message) (refuse (sessionOf slice) area used 12 0)
 
   unfoldable pub messageAnswer : ℕ
-  messageAnswer = pick (leb 40 (length out)) (stepped .refusal) 12
+  messageAnswer = stepped .refusal
 
   unfoldable pub messageSlice : Bytes
-  messageSlice = pick (leb 40 (length out)) (kept (stepped .session) slice) slice
+  messageSlice = kept (stepped .session) slice
 
   unfoldable pub messageArea : Bytes
-  messageArea = pick (leb 40 (length out)) (stepped .area) area
+  messageArea = stepped .area
 
   unfoldable pub messageOut : Bytes
   messageOut = laid (answerNumbers stepped) out

@@ -1,13 +1,17 @@
 -- What the functions for C that get at values return: the paper's numbers for each case, and numbers as bytes.
 use Prim.Native.Nat.{ℕ, _-_}
 use mathlib.Core.List.{List, [], _∷_}
-use mathlib.Core.Path.{_≡_}
 use lib.Dec.{leb}
 use Rattle.base_laws.specs.Base.{pick}
 use Rattle.wire_fields.specs.declared.Found.{Found}
 use Rattle.wire_fields.specs.declared.Found.the-variants as found
 use Rattle.base_numbers.specs.Eight.{laid}
-use Rattle.wire_elements.specs.Elements.{numbersAt}
+use Rattle.wire_elements.specs.declared.Next.{Next}
+use Rattle.wire_elements.specs.declared.Next.the-variants as next
+
+-- the number of the interface that include/sudolog.h declares
+abbrev pub version : ℕ
+version = 1
 
 -- where a list's next element is; the greatest number of 64 bits and a length of 0 for none
 unfoldable pub offsetOf : Found → ℕ
@@ -20,21 +24,12 @@ foundLength found.Nothing = 0
 
 -- ---- sudolog_next_number
 
--- by the numbers that are left: 0 for none, then 12 where three numbers have no room, else 1
-unfoldable pub nextAnswer : List ℕ → ℕ → ℕ
-nextAnswer [] room = 0
-nextAnswer (v ∷ vs) room = pick (leb 24 room) 1 12
+-- 0 where no number is left, then 12 where three numbers have no room, else 1
+unfoldable pub nextAnswer : Next → ℕ → ℕ
+nextAnswer (next.Value v at end) room = pick (leb 24 room) 1 12
+nextAnswer next.Nothing room = 0
 
--- three numbers laid at the start of the buffer `out`, which is then `left`: the next number, and the cursor at which the
--- others are. Which cursor that is, of those at which the same numbers are left, no paper says.
-pub record Laid (s : List ℕ) (at end : ℕ) (out left : List ℕ) : Type 0 where
-  pub number : ℕ
-  pub next : ℕ
-  pub stop : ℕ
-  pub buffer : left ≡ laid (number ∷ next ∷ stop ∷ []) out
-  pub tells : number ∷ numbersAt s next stop ≡ numbersAt s at end
-
--- the buffer where the answer is r: unchanged but where it is 1
-pub record NextBuffer (s : List ℕ) (at end : ℕ) (out : List ℕ) (r : ℕ) (left : List ℕ) : Type 0 where
-  pub one : r ≡ 1 → Laid s at end out left
-  pub other : (r ≡ 1 → ⊥) → left ≡ out
+-- the buffer afterwards: the number and the cursor past it, where they have room
+unfoldable pub nextBuffer : Next → List ℕ → List ℕ
+nextBuffer (next.Value v at end) out = laid (v ∷ at ∷ end ∷ []) out
+nextBuffer next.Nothing out = out

@@ -13,8 +13,18 @@ ghost use mathlib.Core.Path.{_≡_};
 ghost use Prim.Native.Nat.{_-_};
 ghost use lib.ListN.{length};
 ghost use Rattle.wire_fields.specs.Fields.{fieldsAt, numberIn, spanIn, firstOf};
-ghost use Rattle.wire_elements.specs.Elements.{numbersAt};
-ghost use Rattle.c_values.specs.Answers.{offsetOf, foundLength, nextAnswer, NextBuffer};
+ghost use Rattle.wire_elements.specs.Elements.{nextNumber};
+ghost use Rattle.c_values.specs.Answers.{version, offsetOf, foundLength, nextAnswer, nextBuffer};
+
+// The interface's number: it changes whenever a call does. `SUDOLOG_VERSION` of include/sudolog.h is the same.
+const VERSION: u64 = 1;
+
+#[no_mangle]
+pub extern "C" fn sudolog_version() -> u64
+    ensures { λ r. ⌜ r ≡ version ⌝ }
+{
+    VERSION
+}
 
 #[no_mangle]
 pub extern "C" fn sudolog_number(field: u64, s: &[u8]) -> u64
@@ -60,8 +70,8 @@ pub extern "C" fn sudolog_next_length(field: u64, s: &[u8], at: usize) -> u64
 
 #[no_mangle]
 pub extern "C" fn sudolog_next_number(s: &[u8], at: usize, end: usize, out: &mut [u8]) -> u8
-    ensures answer { λ r. ⌜ r ≡ nextAnswer (numbersAt (now (s .entry)) at end) (length (now (out .entry))) ⌝ }
-    ensures buffer { λ r. ⌜ NextBuffer (now (s .entry)) at end (now (out .entry)) r (now (out .exit)) ⌝ }
+    ensures answer { λ r. ⌜ r ≡ nextAnswer (nextNumber (now (s .entry)) at end) (length (now (out .entry))) ⌝ }
+    ensures buffer { λ r. ⌜ now (out .exit) ≡ nextBuffer (nextNumber (now (s .entry)) at end) (now (out .entry)) ⌝ }
 {
     match next_number(s, at, end) {
         Next::Value {

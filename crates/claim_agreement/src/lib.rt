@@ -1,4 +1,1 @@
 // What a session answers and carries, against its file, as definitions and theorems on them: there is no code here.
-pub fn nothing() -> u8 {
-    0
-}

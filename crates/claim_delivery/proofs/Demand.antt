@@ -81,6 +81,7 @@ module _ (d : Delivery) where
 pub demand-3 : Demand3
 demand-3 = record {
   files = shows;
+  lengths = λ d a. reached d .areas a .holds .used-is;
   restarts = λ d. reached d .restarts-ok;
   finished = full;
   apart = λ d e a b x y same. same-file (d .recording) (e .recording) (storable d a x) (storable e b y) (sym (full d a x) ∙ same ∙ full e b y);

@@ -3,7 +3,7 @@ use Prim.Native.Nat.{ℕ, suc, _+_, _≤_, _<_}
 use native.Mathlib.Omega.{arith}
 use mathlib.Core.Path.{_≡_, refl, ap, sym, _∙_}
 use mathlib.Core.Logic.{_⊎_, inl, inr}
-use mathlib.Core.Bool.{Bool, true, false, not}
+use mathlib.Core.Bool.{Bool, true, false}
 use mathlib.Core.Option.{Option, none, some}
 use mathlib.Core.List.{List, [], _∷_, _++_, append-assoc, append-nil, head-eq-of-cons-eq, tail-eq-of-cons-eq}
 use lib.Dec.{eqb}
@@ -117,14 +117,27 @@ pub record Logs (R : Recording) (ms : List Sent) (se : Session) (used n : ℕ) :
   pub mark-ok : MarkOk R n coming (se .total) (se .low) (se .mark)
 
 -- p is the sender's latest point, ms the messages that have yet to come whole
+-- a restart comes first or not at all
+abbrev NoRestart : Sent → Type 0
+NoRestart hello = Unit {0}
+NoRestart (accept a) = Unit {0}
+NoRestart (restart T) = ⊥
+NoRestart (timed t) = Unit {0}
+NoRestart (exit e) = Unit {0}
+
+none-in-rest : (R : Recording) (ts : List TimedRecord) → All NoRestart (rest R ts)
+unfolding rest
+none-in-rest R [] = (tt, tt)
+none-in-rest R (t ∷ ts) = (tt, none-in-rest R ts)
+
 pub data Stage (R : Recording) (p : Option ℕ) (ms : List Sent) (d : Desk) : Type 0 where
   beginning : Lead (d .session .state) ms (accept (R .accept) ∷ rest R (R .timed)) → d .n ≡ 0 → Stage R p ms d
   resuming : (T : ℕ) → Lead (d .session .state) ms (restart T ∷ rest R (later 0 T (R .timed))) → p ≡ some T → All Quiet (d .out) → Stage R p ms d
   logging : Logs R ms (d .session) (d .used) (d .n) → Stage R p ms d
-  over : d .session .state ≡ Closed → d .n ≡ length (records R) → Stage R p ms d
+  over : d .session .state ≡ Closed → d .n ≡ length (records R) → All NoRestart ms → Stage R p ms d
 
 abbrev pub RestartOk : WholeRestart → Type 0
-RestartOk r = r .taken ≡ not (r .carried)
+RestartOk r = r .refusal ≡ pick (r .carried) 13 0
 
 -- c is the area's length
 pub record Inv (R : Recording) (c : ℕ) (p : Option ℕ) (ms : List Sent) (d : Desk) : Type 0 where
@@ -203,6 +216,15 @@ reads-some s (restart T) y = (restartMsg (y .values), y .reads)
 reads-some s (timed t) y = (timedMember t, y)
 reads-some s (exit e) y = (exitMsg e, y)
 
+-- none but a restart is noted
+unnoted : (s : Bytes) (m : Sent) (y : Says s m) → NoRestart m → (w : WholeRestart) → notedMember (reads-some s m y .0) w ≡ []
+unfolding notedMember timedMember reads-some
+unnoted s hello y n w = refl
+unnoted s (accept a) y n w = refl
+unnoted s (restart T) y n w = absurd n
+unnoted s (timed t) y n w = notes-timed t w
+unnoted s (exit e) y n w = refl
+
 module _ (R : Recording) (storable : Storable R) (c : ℕ) (fits : length (fileBytes (records R)) ≤ c) (small : c ≤ 1073741824) where
   -- the desk after a message, where what the session gives and the book are known
   after : Client → Desk → Outcome → ℕ → Desk
@@ -260,7 +282,7 @@ module _ (R : Recording) (storable : Storable R) (c : ℕ) (fits : length (fileB
           holds = rw ends (holds-next R (d .n) r (d .area) (d .used) (i .within) x (omega (arith, i .sized)) (i .holds));
           sized = size-next R (d .n) r (d .area) (d .used) x (omega (arith, i .sized)) (i .holds) ∙ i .sized;
           within = omega arith;
-          restarts-ok = all-append RestartOk (d .restarts) _ (i .restarts-ok) (rw (quiet (record { taken = true; carried = carried })) tt);
+          restarts-ok = all-append RestartOk (d .restarts) _ (i .restarts-ok) (rw (quiet (record { refusal = 0; carried = carried })) tt);
           out-ok = all-append (AnswerOk R (suc (d .n))) (d .out) (toMessage 0 pt ∷ [])
               (all-map (AnswerOk R (d .n)) (AnswerOk R (suc (d .n))) (answer-more R (d .n) (suc (d .n)) (omega arith) (omega arith)) (d .out) (i .out-ok)) (ok, tt);
           point-ok = point-more R (d .n) (suc (d .n)) (omega arith) p (i .point-ok);
@@ -318,9 +340,9 @@ module _ (R : Recording) (storable : Storable R) (c : ℕ) (fits : length (fileB
         }))
 
     -- the exit
-    pub exit-to : (l : Logs R before (d .session) (d .used) (d .n)) → Says s (exit (R .exit)) → l .coming ≡ [] → To
+    pub exit-to : (l : Logs R before (d .session) (d .used) (d .n)) → Says s (exit (R .exit)) → l .coming ≡ [] → ms ≡ [] → To
     unfolding countedMember notedMember isPoint
-    exit-to l y e =
+    exit-to l y e gone =
         let r : Record = exitRecord (R .exit) in
         let xs : List TimedRecord = l .stored-ones in
         let all-of : xs ≡ R .timed = sym (append-nil xs) ∙ ap (λ (z : List TimedRecord). xs ++ z) (sym e) ∙ l .split in
@@ -332,7 +354,7 @@ module _ (R : Recording) (storable : Storable R) (c : ℕ) (fits : length (fileB
         (point.At (d .session .total)) (y .read) x refl (λ w. refl) refl
         (step-exit (d .session) (d .area) (d .used) s (R .exit) y (storable .valid .exit-in-range) (l .state-is) (lengths (d .session .used) (l .used-same)) (room r x (storable .exit-small)))
         (record { is-total = λ T q. sym (at-same q) ∙ l .total-is ∙ ap totalOf all-of; is-whole = λ q. full })
-        (λ f se us k. over (ap (λ (q : Session). q .state) se) (k ∙ full))
+        (λ f se us k. over (ap (λ (q : Session). q .state) se) (k ∙ full) (rw gone tt))
       where
         at-same : {a b : ℕ} → point.At a ≡ point.At b → a ≡ b
         at-same q = cc
@@ -369,42 +391,33 @@ module _ (R : Recording) (storable : Storable R) (c : ℕ) (fits : length (fileB
 
     -- a refusal over a finished file leaves all as it was
     refused-to : (m : Client) (k : ℕ) → Reads s m → eqb k 0 ≡ false → step (d .session) (d .area) (d .used) s ≡ refuse (d .session) (d .area) (d .used) k 0
-        → d .n ≡ length (records R) → To
+        → d .n ≡ length (records R) → All NoRestart ms → ((w : WholeRestart) → w .refusal ≡ k → w .carried ≡ true → All RestartOk (notedMember m w)) → To
     unfolding after notedMember
-    refused-to m k r z gives e =
+    refused-to m k r z gives e left notes =
         rw (hand-is s m d (refuse (d .session) (d .area) (d .used) k 0) (d .n) (r .read) gives (book-stays m (d .n) e))
         (record {
           holds = i .holds;
           sized = i .sized;
           within = i .within;
-          restarts-ok = all-append RestartOk (d .restarts) (notedMember m (record { taken = eqb k 0; carried = carried })) (i .restarts-ok)
-              (rw (z, carried-is ∙ eq-eqb (d .n) (length (records R)) e) (note m));
+          restarts-ok = all-append RestartOk (d .restarts) (notedMember m (record { refusal = k; carried = carried })) (i .restarts-ok)
+              (notes _ refl (carried-is ∙ eq-eqb (d .n) (length (records R)) e));
           out-ok = all-append (AnswerOk R (d .n)) (d .out) (toMessage k point.Absent ∷ []) (i .out-ok) (unpointed R (d .n) k (λ b. e), tt);
           point-ok = i .point-ok;
-          stage = over refl e;
+          stage = over refl e left;
         })
-      where
-        note : (m : Client) → All RestartOk (notedMember m (record { taken = false; carried = true }))
-        note (acceptMsg a) = tt
-        note (rejectMsg a) = tt
-        note (exitMsg e) = tt
-        note (restartMsg r) = (refl, tt)
-        note (alertMsg a) = tt
-        note (ioBuf k i) = tt
-        note (winsizeEvent w) = tt
-        note (suspendEvent x) = tt
-        note (helloMsg h) = tt
 
     -- a session that is over refuses whatever comes
-    pub over-to : (m : Client) → Reads s m → d .session .state ≡ Closed → d .n ≡ length (records R) → To
-    over-to m r h e = refused-to m 9 r refl (step-closed (d .session) (d .area) (d .used) s m r h) e
+    pub over-to : (m : Client) → Reads s m → ((w : WholeRestart) → notedMember m w ≡ []) → d .session .state ≡ Closed → d .n ≡ length (records R) → All NoRestart ms → To
+    over-to m r quiet h e left =
+        refused-to m 9 r refl (step-closed (d .session) (d .area) (d .used) s m r h) e left (λ w _ _. rw (quiet w) tt)
 
     -- a restart of a finished file
-    restart-finished : (v : Restart) → Reads s (restartMsg v) → restartFits v ≡ true → mayOpen (d .session .state) ≡ true → d .n ≡ length (records R) → To
-    restart-finished v r h o k =
+    restart-finished : (v : Restart) → Reads s (restartMsg v) → restartFits v ≡ true → mayOpen (d .session .state) ≡ true → d .n ≡ length (records R) → All NoRestart ms → To
+    unfolding notedMember
+    restart-finished v r h o k left =
         refused-to (restartMsg v) 13 r refl
         (step-finished (d .session) (d .area) (d .used) s v r h o within (records R) (ap recordsOf (i .holds .shows) ∙ read-whole R storable (d .n) k) (whole-finished R storable))
-        k
+        k left (λ w is carried-it. (is ∙ ap (λ (b : Bool). pick b 13 0) (sym carried-it), tt))
 
     -- a restart that is taken
     restart-taken : (v : Restart) → Reads s (restartMsg v) → restartFits v ≡ true → mayOpen (d .session .state) ≡ true
@@ -430,8 +443,8 @@ module _ (R : Recording) (storable : Storable R) (c : ℕ) (fits : length (fileB
           holds = holds-kept R T xs K (d .area) (d .used) same is-first file;
           sized = i .sized;
           within = omega (arith, g .held);
-          restarts-ok = all-append RestartOk (d .restarts) (record { taken = true; carried = carried } ∷ []) (i .restarts-ok)
-              (ap not (sym (carried-is ∙ ne-eqb (d .n) (length (records R)) (λ z. omega arith))), tt);
+          restarts-ok = all-append RestartOk (d .restarts) (record { refusal = 0; carried = carried } ∷ []) (i .restarts-ok)
+              (ap (λ (b : Bool). pick b 13 0) (sym (carried-is ∙ ne-eqb (d .n) (length (records R)) (λ z. omega arith))), tt);
           out-ok = all-append (AnswerOk R (suc (length K))) (d .out) (toMessage 0 point.Absent ∷ [])
               (all-map Quiet (AnswerOk R (suc (length K))) (quiet-ok R (suc (length K))) (d .out) quiet) (unpointed R (suc (length K)) 0 (λ b. absurd (never b)), tt);
           point-ok = rw q good;
@@ -461,7 +474,7 @@ module _ (R : Recording) (storable : Storable R) (c : ℕ) (fits : length (fileB
             → Count R (d .n) → To
         go m′ q′ g (nothing z) = absurd (omega (arith, g .held))
         go m′ q′ g (some-of xs ys e k) = restart-taken (y .values) (y .reads) (y .in-range) o xs ys e k m′ q′ g quiet
-        go m′ q′ g (whole k) = restart-finished (y .values) (y .reads) (y .in-range) o k
+        go m′ q′ g (whole k) = restart-finished (y .values) (y .reads) (y .in-range) o k (rw m (none-in-rest R _))
 
   -- ---- any message that is lined up
 
@@ -470,7 +483,7 @@ module _ (R : Recording) (storable : Storable R) (c : ℕ) (fits : length (fileB
   handed p s m ms d y i = go (i .stage)
     where
       logged : (l : Logs R (m ∷ ms) (d .session) (d .used) (d .n)) (ts : List TimedRecord) → l .coming ≡ ts → m ∷ ms ≡ rest R ts → Inv R c p ms (hand R s d)
-      logged l [] e k = exit-to p d s ms (m ∷ ms) i l (rw (head-eq-of-cons-eq k) at y) e
+      logged l [] e k = exit-to p d s ms (m ∷ ms) i l (rw (head-eq-of-cons-eq k) at y) e (tail-eq-of-cons-eq k)
       logged l (t ∷ ts) e k = timed-to p d s ms (m ∷ ms) i l t ts (rw (head-eq-of-cons-eq k) at y) e (tail-eq-of-cons-eq k)
 
       go : Stage R p (m ∷ ms) d → Inv R c p ms (hand R s d)
@@ -479,7 +492,7 @@ module _ (R : Recording) (storable : Storable R) (c : ℕ) (fits : length (fileB
       go (resuming T (inl (h, e)) q o) = hello-resumes p d s ms (m ∷ ms) i T (rw (head-eq-of-cons-eq e) at y) h (tail-eq-of-cons-eq e) q o
       go (resuming T (inr (h, e)) q o) = restart-to p d s ms (m ∷ ms) i T (rw (head-eq-of-cons-eq e) at y) h (tail-eq-of-cons-eq e) q o
       go (logging l) = logged l (l .coming) refl (l .coming-is)
-      go (over h z) = let r = reads-some s m y in over-to p d s ms (m ∷ ms) i (r .0) (r .1) h z
+      go (over h z unrestarted) = let r = reads-some s m y in over-to p d s ms (m ∷ ms) i (r .0) (r .1) (unnoted s m y (unrestarted .0)) h z (unrestarted .1)
 
   -- so do any number of them
   pub record Handed (p : Option ℕ) (left : List Bytes) (d : Desk) : Type 0 where

@@ -185,7 +185,7 @@ over-at-end R c p d i = go (i .stage)
     go (beginning l z) = absurd (no-lead R d l)
     go (resuming T l q o) = absurd (no-lead R d l)
     go (logging l) = absurd (some-rest R (l .coming) (l .coming-is))
-    go (over h z) = z
+    go (over h z n) = z
 
 lines-none : (ms : List Sent) → Lines [] ms → ms ≡ []
 lines-none [] l = refl

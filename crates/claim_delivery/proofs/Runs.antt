@@ -134,7 +134,7 @@ module _ (R : Recording) (blank : ℕ → Bytes) where
       go : Stage R p ms d → Inv R c p ms (Ticked d)
       go (beginning l z) = rw (no-tick d (lead-quiet (d .session .state) point ms _ l)) i
       go (resuming T l q o) = rw (no-tick d (lead-quiet (d .session .state) point ms _ l)) i
-      go (over h z) = rw (no-tick d (ap (λ (x : State). pointIn x point) h)) i
+      go (over h z n) = rw (no-tick d (ap (λ (x : State). pointIn x point) h)) i
       go (logging l) = record {
         holds = i .holds;
         sized = i .sized;
@@ -236,7 +236,7 @@ module _ (R : Recording) (blank : ℕ → Bytes) where
       go : Stage R p ms d → Stage R q ms (withOut d out)
       go (beginning l z) = beginning l z
       go (resuming T l h o) = let z = rw e at o in resuming T l (same (z .0) ∙ h) (z .1)
-      go (over h z) = over h z
+      go (over h z n) = over h z n
       go (logging l) = logging l
 
   point-place : (book : ℕ → ℕ) (a : ℕ) (q : Option ℕ) → PointOk R (book a) q → LatestOk R book (placed a q)

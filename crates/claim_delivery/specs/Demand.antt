@@ -1,10 +1,9 @@
 -- Demand 3, as one statement about the list.
 use Prim.Native.Nat.{ℕ, _≤_}
 use mathlib.Core.Path.{_≡_}
-use mathlib.Core.Bool.{not}
 use mathlib.Core.List.{List}
 use lib.ListN.{length, take}
-use Rattle.base_laws.specs.Base.{All}
+use Rattle.base_laws.specs.Base.{pick, All}
 use Rattle.wire_message.specs.Message.{Bytes}
 use Rattle.file_format.specs.File as f
 use Rattle.file_format.specs.File.{fileBytes, fileKind}
@@ -47,8 +46,10 @@ Carries w a = fileKind (file w a) ≡ f.finished
 pub record Demand3 : Type 0 where
   -- "each area's used bytes are exactly the recording's first n records, in order, n being the count in 01's book"
   pub files : (d : Delivery) (a : ℕ) → file (end d) a ≡ fileBytes (take (end d .book a) (records (d .recording)))
-  -- "A whole restart is taken exactly when the file carries no exit."
-  pub restarts : (d : Delivery) → All (λ (r : WholeRestart). r .taken ≡ not (r .carried)) (end d .restarts)
+  -- and the used length is theirs, in an area that they fill too
+  pub lengths : (d : Delivery) (a : ℕ) → end d .used a ≡ length (fileBytes (take (end d .book a) (records (d .recording))))
+  -- "A whole restart is taken exactly when the file carries no exit."; else its refusal is 13, "finished"
+  pub restarts : (d : Delivery) → All (λ (r : WholeRestart). r .refusal ≡ pick (r .carried) 13 0) (end d .restarts)
   -- "So a file that carries one holds every record once."
   pub finished : (d : Delivery) (a : ℕ) → Carries (end d) a → file (end d) a ≡ fileBytes (records (d .recording))
   -- "Recordings that differ in the accept's bytes or in any later record's values never give the same finished file."

@@ -70,9 +70,9 @@ booked R g n = pick (eqb n (length (records R))) n (counted R g n)
 
 -- ---- whole restarts
 
--- was it taken, and did the file carry an exit when it came
+-- its refusal, 0 where it was taken; and did the file carry an exit when it came
 pub record WholeRestart : Type 0 where
-  pub taken : Bool
+  pub refusal : ℕ
   pub carried : Bool
 
 unfoldable pub carries : FileKind → Bool
@@ -117,7 +117,7 @@ withOut d out = record { session = d .session; area = d .area; used = d .used; n
 
 -- a restart that the session answered so
 abbrev pub restartNote : Desk → Outcome → WholeRestart
-restartNote d o = record { taken = eqb (o .refusal) 0; carried = carries (fileKind (take (d .used) (d .area))) }
+restartNote d o = record { refusal = o .refusal; carried = carries (fileKind (take (d .used) (d .area))) }
 
 -- the desk after a message that the session answered so, with this n and these restarts more
 abbrev pub deskAfter : Desk → Outcome → ℕ → List WholeRestart → Desk

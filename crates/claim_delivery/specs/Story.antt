@@ -63,6 +63,6 @@ pub record Story : Type 0 where
   pub second-book : after blank recording (first ++ second) .book 5 ≡ 6
   pub second-on : after blank recording (first ++ second) .stopped ≡ false
   -- the one restart was taken, the other not
-  pub restarts : after blank recording story .restarts ≡ record { taken = true; carried = false } ∷ record { taken = false; carried = true } ∷ []
+  pub restarts : after blank recording story .restarts ≡ record { refusal = 0; carried = false } ∷ record { refusal = 13; carried = true } ∷ []
   pub stopped : after blank recording story .stopped ≡ true
   pub whole : file (after blank recording story) 5 ≡ fileBytes (records recording)

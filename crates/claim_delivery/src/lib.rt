@@ -1,4 +1,1 @@
 // Demand 3, as definitions and theorems on them: there is no code here.
-pub fn nothing() -> u8 {
-    0
-}

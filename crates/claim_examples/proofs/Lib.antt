@@ -2,3 +2,4 @@ pub mod Computing
 pub mod Session
 pub mod Marked
 pub mod Logged
+pub mod Stored

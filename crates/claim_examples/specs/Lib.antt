@@ -1,3 +1,4 @@
 pub mod Session
 pub mod Marked
 pub mod Logged
+pub mod Stored

@@ -1,4 +1,1 @@
 // The values of timed records and what is stored for them, as definitions and theorems on them: there is no code here.
-pub fn nothing() -> u8 {
-    0
-}

@@ -1,7 +1,7 @@
 -- The numbers of a NumberList at a cursor, and at a field.
-use Prim.Native.Nat.{ℕ, _≤_, _<_}
+use Prim.Native.Nat.{ℕ, zero, suc, _-_, _≤_, _<_}
 use native.Mathlib.Omega.{arith}
-use mathlib.Core.Path.{_≡_, sym, ap, subst, _∙_}
+use mathlib.Core.Path.{_≡_, refl, sym, ap, subst, _∙_}
 use mathlib.Core.List.{List, [], _∷_, _++_, map}
 use mathlib.Core.Bool.{Bool, true, false}
 use mathlib.Core.Logic.{⊎-elim}
@@ -14,12 +14,14 @@ use Rattle.wire_varint.specs.Varint.{varintAt}
 use Rattle.wire_fields.specs.Fields.{fieldAt, onField, fieldsAt}
 use Rattle.wire_fields.specs.Items.{number, bytes, itemOf, items}
 use Rattle.wire_fields.specs.declared.Field.{Field}
+use Rattle.wire_fields.specs.declared.Field.the-variants as field
 use Rattle.wire_varint.specs.declared.Varint.{Varint}
-use Rattle.wire_varint.specs.declared.Varint.the-variants.{Value, PastEnd}
+use Rattle.wire_varint.specs.declared.Varint.the-variants.{Value, PastEnd, TooLong}
 use Rattle.wire_varint.proofs.Varints.{past}
 use Rattle.wire_fields.proofs.Reach.{Read, read}
 use Rattle.wire_fields.proofs.Follow.{FieldRead, field-read, follow, none}
-use Rattle.wire_elements.specs.Elements.{itemsAt, onVarint, varintsAt, varints, numbersOf, numbersAt, told}
+use Rattle.wire_elements.specs.Elements.{itemsAt, onVarint, varintsAt, varints, numbersOf, numbersAt, firstIn, firstNumber, nextNumber, told}
+use Rattle.wire_elements.specs.declared.Next.{Next}
 use Rattle.wire_elements.specs.declared.Next.the-variants as next
 use Rattle.wire_elements.proofs.Packed.{varints-follow, packed}
 
@@ -70,21 +72,6 @@ module _ (s : List ℕ) where
       ∙ ap (λ (i : ℕ). v ∷ (varintsAt (take e s) n ++ numbersOf (itemsAt s i))) (sym (resumes at e (omega arith)))
       ∙ at-cursor at e (Value v n) h
 
-  -- a field at `at`: how far it reaches, and that it and those that follow hold the numbers from `from` on
-  abbrev pub Leaves : ℕ → ℕ → Field → Type 0
-  Leaves from at x = FieldRead s at x × (numbersOf (map (itemOf s) (onField (fieldsAt s) x)) ≡ numbersOf (itemsAt s from))
-
-  pub at-field : (from at : ℕ) (x : Field) → at < length s → numbersOf (itemsAt s at) ≡ numbersOf (itemsAt s from) → fieldAt s at ≡ x → Leaves from at x
-  at-field from at x i h e = (
-    subst (FieldRead s at) e (field-read s at),
-    ap (λ (y : Field). numbersOf (map (itemOf s) (onField (fieldsAt s) y))) (sym e)
-        ∙ ap (λ (fs : List Field). numbersOf (map (itemOf s) fs)) (sym (follow s at i)) ∙ h,
-  )
-
-  pub at-end : (at : ℕ) → length s ≤ at → [] ≡ numbersOf (itemsAt s at)
-  unfolding numbersOf
-  at-end at h = ap (λ (fs : List Field). numbersOf (map (itemOf s) fs)) (sym (none s at h))
-
   -- at a field with bytes: the first varint of the list's own, those past it, and those of the fields
   pub at-part : (g a e : ℕ) (r : Varint) → pick (eqb g 1) (varintAt (take e s) a) PastEnd ≡ r
       → onVarint (varintsAt (take e s)) r ++ numbersOf (itemsAt s e) ≡ numbersOf (bytes g (part s a e) ∷ itemsAt s e)
@@ -111,3 +98,86 @@ module _ (s : List ℕ) where
   pub number-value : (g v n : ℕ) → eqb g 1 ≡ true → told s (next.Value v n n) ≡ numbersOf (number g v ∷ itemsAt s n)
   unfolding told numbersOf
   number-value g v n h = rw h (ap (λ (m : List ℕ). v ∷ m) (outside n n (omega arith)))
+
+  -- ---- one number after the other
+
+  -- a field at `at`: how far it reaches, and that it and those that follow give the first number from `from` on
+  abbrev pub Leaves : ℕ → ℕ → Field → Type 0
+  Leaves from at x = FieldRead s at x × (firstNumber s (onField (fieldsAt s) x) ≡ firstNumber s (fieldsAt s from))
+
+  pub at-field : (from at : ℕ) (x : Field) → at < length s → firstNumber s (fieldsAt s at) ≡ firstNumber s (fieldsAt s from) → fieldAt s at ≡ x → Leaves from at x
+  at-field from at x i h e = (
+    subst (FieldRead s at) e (field-read s at),
+    ap (λ (y : Field). firstNumber s (onField (fieldsAt s) y)) (sym e) ∙ ap (firstNumber s) (sym (follow s at i)) ∙ h,
+  )
+
+  pub at-end : (at : ℕ) → length s ≤ at → next.Nothing ≡ firstNumber s (fieldsAt s at)
+  unfolding firstNumber
+  at-end at h = ap (firstNumber s) (sym (none s at h))
+
+  -- the first varint of a field's bytes where the field is the list's
+  pub first-in : (g a e : ℕ) (rest : Next) (r : Varint) → pick (eqb g 1) (varintAt (take e s) a) PastEnd ≡ r
+      → firstIn e rest r ≡ pick (eqb g 1) (firstIn e rest (varintAt (take e s) a)) rest
+  unfolding firstIn
+  first-in g a e rest r h = inner (eqb g 1) h
+    where
+      inner : (t : Bool) → pick t (varintAt (take e s) a) PastEnd ≡ r → firstIn e rest r ≡ pick t (firstIn e rest (varintAt (take e s) a)) rest
+      inner true q = ap (firstIn e rest) (sym q)
+      inner false q = ap (firstIn e rest) (sym q)
+
+  -- ---- the first number of some fields, and those left at its cursor, are their numbers
+
+  abbrev Tells : ℕ → Type 0
+  Tells at = told s (firstNumber s (fieldsAt s at)) ≡ numbersOf (itemsAt s at)
+
+  -- a part: its first varint, or what the fields past it give
+  part-tells : (g a e : ℕ) → Tells e → (r : Varint) → pick (eqb g 1) (varintAt (take e s) a) PastEnd ≡ r
+      → told s (firstIn e (firstNumber s (fieldsAt s e)) r) ≡ numbersOf (bytes g (part s a e) ∷ itemsAt s e)
+  unfolding firstIn onVarint
+  part-tells g a e h (Value v n) q = part-value g a e v n q
+  part-tells g a e h PastEnd q = h ∙ at-part g a e PastEnd q
+  part-tells g a e h TooLong q = h ∙ at-part g a e TooLong q
+
+  number-tells : (g v n : ℕ) → Tells n → told s (pick (eqb g 1) (next.Value v n n) (firstNumber s (fieldsAt s n))) ≡ numbersOf (number g v ∷ itemsAt s n)
+  unfolding numbersOf
+  number-tells g v n h = inner (eqb g 1) refl
+    where
+      inner : (t : Bool) → eqb g 1 ≡ t → told s (pick t (next.Value v n n) (firstNumber s (fieldsAt s n))) ≡ pick t (v ∷ numbersOf (itemsAt s n)) (numbersOf (itemsAt s n))
+      inner true e = rw e at (number-value g v n e)
+      inner false e = h
+
+  field-tells : (at : ℕ) (x : Field) → FieldRead s at x → ((n : ℕ) → at < n → n ≤ length s → Tells n)
+      → told s (firstNumber s (onField (fieldsAt s) x)) ≡ numbersOf (map (itemOf s) (onField (fieldsAt s) x))
+  unfolding onField firstNumber numbersOf told
+  field-tells at (field.Number g v n) r h = number-tells g v n (h n (r .0) (r .1))
+  field-tells at (field.Fixed g n) r h = h n (r .0) (r .1)
+  field-tells at (field.Part g a e) r h =
+      ap (told s) (sym (first-in g a e (firstNumber s (fieldsAt s e)) _ refl)) ∙ part-tells g a e (h e (omega (arith, r .0, r .1)) (r .2)) _ refl
+  field-tells at field.Broken r h = refl
+
+  tells-from : (k at : ℕ) → length s - at < k → Tells at
+  unfolding firstNumber numbersOf told
+  tells-from zero at h = absurd (omega arith)
+  tells-from (suc k) at h =
+      ⊎-elim
+      (λ (i : at < length s).
+      let x : Field = fieldAt s at in
+      ap (λ (fs : List Field). told s (firstNumber s fs)) (follow s at i)
+      ∙ field-tells at x (field-read s at) (λ n l m. tells-from k n (omega arith))
+      ∙ ap (λ (fs : List Field). numbersOf (map (itemOf s) fs)) (sym (follow s at i)))
+      (λ (i : length s ≤ at).
+      ap (λ (fs : List Field). told s (firstNumber s fs)) (none s at i) ∙ ap (λ (fs : List Field). numbersOf (map (itemOf s) fs)) (sym (none s at i)))
+      (lt-or-le at (length s))
+
+  pub next-tells : (at end : ℕ) → told s (nextNumber s at end) ≡ numbersAt s at end
+  unfolding nextNumber firstIn onVarint
+  next-tells at end = inner (varintAt (take end s) at) refl
+    where
+      tells : Tells (pick (ltb at end) end at)
+      tells = tells-from (suc (length s - pick (ltb at end) end at)) (pick (ltb at end) end at) (omega arith)
+
+      inner : (r : Varint) → varintAt (take end s) at ≡ r
+          → told s (firstIn end (firstNumber s (fieldsAt s (pick (ltb at end) end at))) r) ≡ numbersAt s at end
+      inner (Value v n) e = at-value at end v n e
+      inner PastEnd e = tells ∙ at-cursor at end PastEnd e
+      inner TooLong e = tells ∙ at-cursor at end TooLong e

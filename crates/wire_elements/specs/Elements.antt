@@ -7,6 +7,8 @@ use Rattle.base_laws.specs.Base.{pick}
 use Rattle.wire_varint.specs.Varint.{varintAt}
 use Rattle.wire_fields.specs.Fields.{fieldsAt}
 use Rattle.wire_fields.specs.Items.{Item, none, number, bytes, itemOf, everyBytes}
+use Rattle.wire_fields.specs.declared.Field.{Field}
+use Rattle.wire_fields.specs.declared.Field.the-variants as field
 use Rattle.wire_varint.specs.declared.Varint.{Varint}
 use Rattle.wire_varint.specs.declared.Varint.the-variants.{Value, PastEnd, TooLong}
 use Rattle.wire_elements.specs.declared.Next.{Next}
@@ -50,7 +52,27 @@ numbersOf (bytes f d ∷ is) = pick (eqb f 1) (varints d ++ numbersOf is) (numbe
 unfoldable pub numbersAt : List ℕ → ℕ → ℕ → List ℕ
 numbersAt s at end = varintsAt (take end s) at ++ numbersOf (itemsAt s (pick (ltb at end) end at))
 
--- a number found, and those left at its cursor
+-- ---- one number after the other, by a cursor
+
+-- the number of a varint in a part that ends at e, with the cursor past it; where it has none, what the fields that follow give
+unfoldable pub firstIn : ℕ → Next → Varint → Next
+firstIn e rest (Value v n) = next.Value v n e
+firstIn e rest PastEnd = rest
+firstIn e rest TooLong = rest
+
+-- the first number of some fields; one that is not packed is in no part, so its cursor is at its own end
+unfoldable pub firstNumber : List ℕ → List Field → Next
+firstNumber s [] = next.Nothing
+firstNumber s (field.Number f v n ∷ fs) = pick (eqb f 1) (next.Value v n n) (firstNumber s fs)
+firstNumber s (field.Fixed f n ∷ fs) = firstNumber s fs
+firstNumber s (field.Part f a e ∷ fs) = pick (eqb f 1) (firstIn e (firstNumber s fs) (varintAt (take e s) a)) (firstNumber s fs)
+firstNumber s (field.Broken ∷ fs) = firstNumber s fs
+
+-- the next number at a cursor: of the packed part that it is in, else of the fields past it
+unfoldable pub nextNumber : List ℕ → ℕ → ℕ → Next
+nextNumber s at end = firstIn end (firstNumber s (fieldsAt s (pick (ltb at end) end at))) (varintAt (take end s) at)
+
+-- a number found, and those left at its cursor: of `nextNumber`, the numbers that were left before it (proofs/Numbers.antt: next-tells)
 unfoldable pub told : List ℕ → Next → List ℕ
 told s (next.Value v a e) = v ∷ numbersAt s a e
 told s next.Nothing = []

@@ -10,7 +10,8 @@ ghost use lib.Dec.{ltb, eqb};
 ghost use Rattle.base_laws.specs.Base.{pick};
 ghost use Rattle.wire_varint.specs.Varint.{varintAt};
 ghost use Rattle.wire_varint.specs.declared.Varint.the-variants.{PastEnd};
-ghost use Rattle.wire_elements.specs.Elements.{itemsAt, numbersOf, numbersAt, told};
+ghost use Rattle.wire_fields.specs.Fields.{fieldsAt};
+ghost use Rattle.wire_elements.specs.Elements.{firstNumber, nextNumber};
 
 // The next number of a NumberList with the cursor past it: a place, and the end of the packed numbers that it is in.
 pub enum Next {
@@ -40,7 +41,7 @@ fn packed_in(s: &[u8], number: u64, start: usize, end: usize) -> Varint
 
 // The first number of the fields from a place on.
 fn number_from(s: &[u8], from: usize) -> Next
-    ensures { λ r. ⌜ told (now (s .entry)) r ≡ numbersOf (itemsAt (now (s .entry)) from) ⌝ }
+    ensures { λ r. ⌜ r ≡ firstNumber (now (s .entry)) (fieldsAt (now (s .entry)) from) ⌝ }
 {
     let mut at = from;
     while at < s.len() {
@@ -97,7 +98,7 @@ fn resumed(at: usize, end: usize) -> usize
 
 // The next number at a cursor. A list is read from the cursor 0, 0 on.
 pub fn next_number(s: &[u8], at: usize, end: usize) -> Next
-    ensures { λ r. ⌜ told (now (s .entry)) r ≡ numbersAt (now (s .entry)) at end ⌝ }
+    ensures { λ r. ⌜ r ≡ nextNumber (now (s .entry)) at end ⌝ }
 {
     match packed_at(s, at, end) {
         Varint::Value { value, next } => Next::Value {

@@ -8,7 +8,6 @@ use wire_message::value_in;
 use wire_types::Time;
 use wire_walk_io::time::time_in;
 ghost use mathlib.Core.Path.{_≡_};
-ghost use Prim.Native.Nat.{_<_};
 ghost use lib.ListN.{length};
 ghost use Rattle.wire_fields.specs.Items.{items, lastItem};
 ghost use Rattle.wire_message.specs.Signed.{int32};
@@ -21,9 +20,9 @@ pub const NANOS_LIMIT: u64 = 999999999;
 
 const SECONDS_LIMIT: u64 = 4294967295;
 
-pub const EXIT_VALUE_LIMIT: u64 = 255;
+pub const EXIT_VALUE_LIMIT: u16 = 255;
 
-pub const WINDOW_LIMIT: u64 = 65535;
+pub const WINDOW_LIMIT: u16 = 65535;
 
 pub const SIGNAL_LIMIT: usize = 127;
 
@@ -59,11 +58,10 @@ pub fn moment_in(s: &[u8], number: u64) -> bool
 }
 
 // Is an int32 field from 0 to `most`.
-pub fn number_fits(s: &[u8], number: u64, most: u64) -> bool
-    requires { ⌜ most < 2147483648 ⌝ }
+pub fn number_fits(s: &[u8], number: u64, most: u16) -> bool
     ensures { λ r. ⌜ r ≡ upTo most (int32 (m.numberField number (items (now (s .entry))))) ⌝ }
 {
-    number_in(s, number) % 4294967296 <= most
+    number_in(s, number) % 4294967296 <= most as u64
 }
 
 // How many bytes a string field has.

@@ -1,4 +1,1 @@
 // The written form of every message, as definitions, and the theorems on it: there is no code here.
-pub fn nothing() -> u8 {
-    0
-}

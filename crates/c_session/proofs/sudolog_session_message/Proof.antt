@@ -1,16 +1,12 @@
--- A buffer that is too short is Messages.no-room; otherwise load, message, save and the five numbers are Messages.answered.
-use Rattle.c_session.proofs.Messages.{no-room, answered}
+-- Load, the message where its answer has room, save and the five numbers are Messages.answered.
+use Rattle.c_session.proofs.Messages.{answered}
+use mathlib.Core.Path.{refl}
 use borrow.Author.Needs.{needs}
 use Rattle.c_session.proofs.sudolog_session_message.Statement.{statement}
 use Rattle.c_session.proofs.sudolog_session_message.Tie as tie
 
 returns : tie.Need-returns
 returns c =
-    let a = c .before .before .before .before .before .args in
-    no-room (a .slice .now) (a .s .now) (a .area .now) (a .used) (a .out .now) (c .if1 .taken)
-
-returns-2 : tie.Need-returns-2
-returns-2 c =
     let at-lay-five = c .before .before in
     let at-state-number = at-lay-five .before in
     let at-point-number = at-state-number .before in
@@ -18,17 +14,15 @@ returns-2 c =
     let at-save = at-has-point .before .before .before .before .before in
     let at-message = at-save .before .before .before .before .before in
     let at-load = at-message .before .before in
-    let at-if1 = at-load .before .before in
-    let a = at-if1 .before .before .before .before .before .args in
-    answered (a .slice .now) (a .s .now) (a .area .now) (a .used) (a .out .now) _ _ _ _ _ (at-load .load .ensures)
-    (at-message .message .ensures) (at-if1 .if1 .left) _ _ _ (at-save .save .ensures .1) (at-has-point .has-point .ensures)
+    let a = at-load .before .before .before .before .before .before .args in
+    answered (a .slice .now) (a .s .now) (a .area .now) (a .used) (a .out .now) _ _ _ _ _ _ (at-load .load .ensures) refl
+    (at-message .message-in .ensures) _ _ _ (at-save .save .ensures .1) (at-has-point .has-point .ensures)
     (at-point-number .point-number .ensures) (at-state-number .state-number .ensures) (at-lay-five .lay-five .ensures .1)
 
 pub sudolog-session-message-spec : {M : Type 1} → statement M
 sudolog-session-message-spec =
     tie.close
     (tie.spec
-    returns
     (λ c κs. search needs)
     (λ c κs. search needs)
     (λ c κs. search needs)
@@ -40,4 +34,4 @@ sudolog-session-message-spec =
     (λ c. search needs)
     (λ c. search needs)
     (λ c. search needs)
-    returns-2)
+    returns)
