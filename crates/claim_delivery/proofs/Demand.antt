@@ -64,7 +64,7 @@ module _ (d : Delivery) where
   unfolding carries fresh
   storable a h = go (came d)
     where
-      go : Came (d .blank) (d .recording) (end d) → Storable (d .recording)
+      go : Came (d .every) (d .blank) (d .recording) (end d) → Storable (d .recording)
       go (opened s) = s
       go (unopened e) =
           let z : false ≡ true = sym carries-none ∙ ap (λ (w : World). carries (fileKind (file w a))) (sym e) ∙ ap carries h in

@@ -3,7 +3,7 @@ use Prim.Native.Nat.{ℕ, suc, _+_, _≤_, _<_}
 use native.Mathlib.Omega.{arith}
 use mathlib.Core.Path.{_≡_, refl, ap, sym, _∙_}
 use mathlib.Core.Logic.{_⊎_, inl, inr}
-use mathlib.Core.Bool.{Bool, true, false}
+use mathlib.Core.Bool.{Bool, true, false, not}
 use mathlib.Core.Option.{Option, none, some}
 use mathlib.Core.List.{List, [], _∷_, _++_, append-assoc, append-nil, head-eq-of-cons-eq, tail-eq-of-cons-eq}
 use lib.Dec.{eqb}
@@ -29,8 +29,8 @@ use Rattle.claim_values.specs.Values.{TimedRecord, io, window, suspend, storedF
 use Rattle.claim_values.proofs.Stored.{StorableTimed, time-is}
 use Rattle.claim_delivery.specs.Recording.{Recording, records, time, totalOf, acceptOf}
 use Rattle.claim_delivery.specs.Sender.{Sent, hello, accept, restart, timed, exit, rest, Reads, Says, Lines}
-use Rattle.claim_delivery.specs.Host.{countedMember, counted, booked, WholeRestart, carries, notedMember, noted, Answer, toTick, toMessage, Desk, restartNote, deskAfter, hand, handAll}
-use Rattle.claim_delivery.specs.World.{isPoint, stoppedAfter}
+use Rattle.claim_delivery.specs.Host.{countedMember, counted, booked, WholeRestart, carries, notedMember, noted, Answer, toTick, toMessage, isPoint, answered, Desk, restartNote, deskAfter, hand, handAll}
+use Rattle.claim_delivery.specs.World.{stoppedAfter}
 use Rattle.claim_delivery.proofs.Totals.{kept, later, kept-later, atMost-is, kept-beginning, kept-exact, HeadLater, later-head}
 use Rattle.claim_delivery.proofs.Files.{Storable, total-of-append, begun, first, size, Count, nothing, some-of, whole, count, beginning-short, begun-unfinished, read-begun, whole-finished, read-whole, carries-is}
 use Rattle.claim_delivery.proofs.Areas.{Holds, Next, next-below, next-room, holds-next, size-next, next-accept, next-timed, next-exit, meets-begun, holds-kept}
@@ -94,6 +94,55 @@ answer-more : (R : Recording) (n m : ℕ) → n ≤ m → m ≤ length (records 
 answer-more R n m h l (toTick T) g = good-more m h g
 answer-more R n m h l (toMessage k p) g = record { is-total = g .is-total; is-whole = λ e. omega (arith, g .is-whole e) }
 
+-- what goes under way for a message
+answers : (P : Answer → Type 0) (every : Bool) (k : ℕ) (p : Point) → P (toMessage k p) → All P (answered every k p)
+unfolding answered
+answers P every k p h = go (both (not every) (both (eqb k 0) (not (isPoint p))))
+  where
+    go : (b : Bool) → All P (pick b [] (toMessage k p ∷ []))
+    go true = tt
+    go false = (h, tt)
+
+-- has the sender stopped once all that is under way has come
+unfoldable pub told : Bool → List Answer → Bool
+told b [] = b
+told b (a ∷ out) = told (stoppedAfter b a) out
+
+-- it does not go on after its stop
+told-on : (out : List Answer) → told true out ≡ true
+unfolding told
+told-on [] = refl
+told-on (toTick T ∷ out) = told-on out
+told-on (toMessage k p ∷ out) = ap (λ (b : Bool). told b out) (still (eqb k 13) (isPoint p)) ∙ told-on out
+  where
+    still : (x y : Bool) → pick x true (pick y true true) ≡ true
+    still true y = refl
+    still false true = refl
+    still false false = refl
+
+-- more answers under way change nothing for a sender that stops at those before
+told-more : (b : Bool) (xs ys : List Answer) → told b xs ≡ true → told b (xs ++ ys) ≡ true
+unfolding told
+told-more b [] ys e = ap (λ (x : Bool). told x ys) e ∙ told-on ys
+told-more b (a ∷ xs) ys e = told-more (stoppedAfter b a) xs ys e
+
+-- it stops at a last one
+told-last : (b : Bool) (xs : List Answer) (k : ℕ) (p : Point) → ((x : Bool) → stoppedAfter x (toMessage k p) ≡ true) → told b (xs ++ (toMessage k p ∷ [])) ≡ true
+unfolding told
+told-last b [] k p h = h b
+told-last b (a ∷ xs) k p h = told-last (stoppedAfter b a) xs k p h
+
+-- at an exit's point, at the refusal "finished"
+told-point : (b every : Bool) (xs : List Answer) (T : ℕ) → told b (xs ++ answered every 0 (point.At T)) ≡ true
+unfolding answered isPoint
+told-point b true xs T = told-last b xs 0 (point.At T) (λ x. refl)
+told-point b false xs T = told-last b xs 0 (point.At T) (λ x. refl)
+
+told-finished : (b every : Bool) (xs : List Answer) → told b (xs ++ answered every 13 point.Absent) ≡ true
+unfolding answered isPoint
+told-finished b true xs = told-last b xs 13 point.Absent (λ x. refl)
+told-finished b false xs = told-last b xs 13 point.Absent (λ x. refl)
+
 -- ---- where a connection stands
 
 -- the session's own marks, n records stored and ys to come
@@ -130,24 +179,25 @@ unfolding rest
 none-in-rest R [] = (tt, tt)
 none-in-rest R (t ∷ ts) = (tt, none-in-rest R ts)
 
-pub data Stage (R : Recording) (p : Option ℕ) (ms : List Sent) (d : Desk) : Type 0 where
-  beginning : Lead (d .session .state) ms (accept (R .accept) ∷ rest R (R .timed)) → d .n ≡ 0 → Stage R p ms d
-  resuming : (T : ℕ) → Lead (d .session .state) ms (restart T ∷ rest R (later 0 T (R .timed))) → p ≡ some T → All Quiet (d .out) → Stage R p ms d
-  logging : Logs R ms (d .session) (d .used) (d .n) → Stage R p ms d
-  over : d .session .state ≡ Closed → d .n ≡ length (records R) → All NoRestart ms → Stage R p ms d
+-- stop: has the sender stopped
+pub data Stage (R : Recording) (p : Option ℕ) (stop : Bool) (ms : List Sent) (d : Desk) : Type 0 where
+  beginning : Lead (d .session .state) ms (accept (R .accept) ∷ rest R (R .timed)) → d .n ≡ 0 → Stage R p stop ms d
+  resuming : (T : ℕ) → Lead (d .session .state) ms (restart T ∷ rest R (later 0 T (R .timed))) → p ≡ some T → All Quiet (d .out) → Stage R p stop ms d
+  logging : Logs R ms (d .session) (d .used) (d .n) → Stage R p stop ms d
+  over : d .session .state ≡ Closed → d .n ≡ length (records R) → All NoRestart ms → told stop (d .out) ≡ true → Stage R p stop ms d
 
 abbrev pub RestartOk : WholeRestart → Type 0
 RestartOk r = r .refusal ≡ pick (r .carried) 13 0
 
 -- c is the area's length
-pub record Inv (R : Recording) (c : ℕ) (p : Option ℕ) (ms : List Sent) (d : Desk) : Type 0 where
+pub record Inv (R : Recording) (c : ℕ) (p : Option ℕ) (stop : Bool) (ms : List Sent) (d : Desk) : Type 0 where
   pub holds : Holds (d .area) (d .used) (take (d .n) (records R))
   pub sized : length (d .area) ≡ c
   pub within : d .n ≤ length (records R)
   pub restarts-ok : All RestartOk (d .restarts)
   pub out-ok : All (AnswerOk R (d .n)) (d .out)
   pub point-ok : PointOk R (d .n) p
-  pub stage : Stage R p ms d
+  pub stage : Stage R p stop ms d
 
 -- ---- a timed record
 
@@ -243,9 +293,9 @@ module _ (R : Recording) (storable : Storable R) (c : ℕ) (fits : length (fileB
   unfolding booked counted
   book-counts m n h = rw (ne-eqb n (length (records R)) (λ e. omega arith))
 
-  module _ (p : Option ℕ) (d : Desk) (s : Bytes) (ms before : List Sent) (i : Inv R c p before d) where
+  module _ (p : Option ℕ) (stop : Bool) (d : Desk) (s : Bytes) (ms before : List Sent) (i : Inv R c p stop before d) where
     abbrev To : Type 0
-    To = Inv R c p ms (hand R s d)
+    To = Inv R c p stop ms (hand R s d)
 
     abbrev carried : Bool
     carried = carries (fileKind (take (d .used) (d .area)))
@@ -271,7 +321,8 @@ module _ (R : Recording) (storable : Storable R) (c : ℕ) (fits : length (fileB
         → se .used ≡ d .used + length (recordBytes r)
         → step (d .session) (d .area) (d .used) s ≡ carrying pt se (stored (d .session) (d .area) (d .used) r)
         → MessageOk R (suc (d .n)) 0 pt
-        → ((e : Desk) → e .session ≡ se → e .used ≡ d .used + length (recordBytes r) → e .n ≡ suc (d .n) → Stage R p ms e)
+        → ((e : Desk) → e .session ≡ se → e .used ≡ d .used + length (recordBytes r) → e .n ≡ suc (d .n) → e .out ≡ d .out ++ answered (d .every) 0 pt
+            → Stage R p stop ms e)
         → To
     unfolding after
     stored-to m r se pt read x counts quiet ends gives ok st =
@@ -283,10 +334,11 @@ module _ (R : Recording) (storable : Storable R) (c : ℕ) (fits : length (fileB
           sized = size-next R (d .n) r (d .area) (d .used) x (omega (arith, i .sized)) (i .holds) ∙ i .sized;
           within = omega arith;
           restarts-ok = all-append RestartOk (d .restarts) _ (i .restarts-ok) (rw (quiet (record { refusal = 0; carried = carried })) tt);
-          out-ok = all-append (AnswerOk R (suc (d .n))) (d .out) (toMessage 0 pt ∷ [])
-              (all-map (AnswerOk R (d .n)) (AnswerOk R (suc (d .n))) (answer-more R (d .n) (suc (d .n)) (omega arith) (omega arith)) (d .out) (i .out-ok)) (ok, tt);
+          out-ok = all-append (AnswerOk R (suc (d .n))) (d .out) (answered (d .every) 0 pt)
+              (all-map (AnswerOk R (d .n)) (AnswerOk R (suc (d .n))) (answer-more R (d .n) (suc (d .n)) (omega arith) (omega arith)) (d .out) (i .out-ok))
+              (answers (AnswerOk R (suc (d .n))) (d .every) 0 pt ok);
           point-ok = point-more R (d .n) (suc (d .n)) (omega arith) p (i .point-ok);
-          stage = st (after m d o (suc (d .n))) refl ends refl;
+          stage = st (after m d o (suc (d .n))) refl ends refl refl;
         })
 
     -- the accept
@@ -299,7 +351,7 @@ module _ (R : Recording) (storable : Storable R) (c : ℕ) (fits : length (fileB
         stored-to (acceptMsg (acceptOf R)) a (fromAccept (d .used + length (recordBytes a))) point.Absent (y .0 .read) x refl (λ w. refl) refl
         (step-accept (d .session) (d .area) (d .used) s R (storable .valid) (y .0) (y .1) o (lengths 0 u) (room a x (storable .accept-small)))
         (unpointed R (suc (d .n)) 0 (λ b. absurd (never b)))
-        (λ f se us k. logging (record {
+        (λ f se us k out. logging (record {
           stored-ones = [];
           coming = R .timed;
           split = refl;
@@ -327,7 +379,7 @@ module _ (R : Recording) (storable : Storable R) (c : ℕ) (fits : length (fileB
         (step-timed (d .session) (d .area) (d .used) s t y (v .in-range) (l .state-is) (lengths (d .session .used) (l .used-same))
         (omega (arith, l .total-is, storable .valid .within-limit)) (not-at-mark R (d .n) (d .session) t ys (d .session .mark) delay marks) (room (storedFor t) x (v .small)))
         (unpointed R (suc (d .n)) 0 (λ b. absurd (never b)))
-        (λ f se us k. logging (record {
+        (λ f se us k out. logging (record {
           stored-ones = xs ++ (t ∷ []);
           coming = ys;
           split = append-assoc xs (t ∷ []) ys ∙ split;
@@ -354,13 +406,14 @@ module _ (R : Recording) (storable : Storable R) (c : ℕ) (fits : length (fileB
         (point.At (d .session .total)) (y .read) x refl (λ w. refl) refl
         (step-exit (d .session) (d .area) (d .used) s (R .exit) y (storable .valid .exit-in-range) (l .state-is) (lengths (d .session .used) (l .used-same)) (room r x (storable .exit-small)))
         (record { is-total = λ T q. sym (at-same q) ∙ l .total-is ∙ ap totalOf all-of; is-whole = λ q. full })
-        (λ f se us k. over (ap (λ (q : Session). q .state) se) (k ∙ full) (rw gone tt))
+        (λ f se us k out. over (ap (λ (q : Session). q .state) se) (k ∙ full) (rw gone tt)
+        (ap (told stop) out ∙ told-point stop (d .every) (d .out) (d .session .total)))
       where
         at-same : {a b : ℕ} → point.At a ≡ point.At b → a ≡ b
         at-same q = cc
 
     -- a hello: nothing of the area or the book changes
-    hello-to : Says s hello → d .session .state ≡ New → ((e : Desk) → e .session .state ≡ Greeted → e .n ≡ d .n → e .out ≡ d .out ++ (toMessage 0 point.Absent ∷ []) → Stage R p ms e) → To
+    hello-to : Says s hello → d .session .state ≡ New → ((e : Desk) → e .session .state ≡ Greeted → e .n ≡ d .n → e .out ≡ d .out ++ answered (d .every) 0 point.Absent → Stage R p stop ms e) → To
     unfolding after notedMember booked counted countedMember
     hello-to y h st =
         rw (hand-is s (helloMsg (y .0)) d (taken (d .session) (d .area) (d .used) Greeted) (d .n) (y .1 .read)
@@ -370,7 +423,8 @@ module _ (R : Recording) (storable : Storable R) (c : ℕ) (fits : length (fileB
           sized = i .sized;
           within = i .within;
           restarts-ok = all-append RestartOk (d .restarts) [] (i .restarts-ok) tt;
-          out-ok = all-append (AnswerOk R (d .n)) (d .out) (toMessage 0 point.Absent ∷ []) (i .out-ok) (unpointed R (d .n) 0 (λ b. absurd (never b)), tt);
+          out-ok = all-append (AnswerOk R (d .n)) (d .out) (answered (d .every) 0 point.Absent) (i .out-ok)
+              (answers (AnswerOk R (d .n)) (d .every) 0 point.Absent (unpointed R (d .n) 0 (λ b. absurd (never b))));
           point-ok = i .point-ok;
           stage = st (after (helloMsg (y .0)) d (taken (d .session) (d .area) (d .used) Greeted) (d .n)) refl refl refl;
         })
@@ -387,13 +441,14 @@ module _ (R : Recording) (storable : Storable R) (c : ℕ) (fits : length (fileB
     pub hello-resumes : (T : ℕ) → Says s hello → d .session .state ≡ New → ms ≡ restart T ∷ rest R (later 0 T (R .timed)) → p ≡ some T → All Quiet (d .out) → To
     unfolding mayOpen
     hello-resumes T y h e q o =
-        hello-to y h (λ f st k out. resuming T (inr (ap mayOpen st, e)) q (rw out (all-append Quiet (d .out) (toMessage 0 point.Absent ∷ []) o ((refl, refl), tt))))
+        hello-to y h (λ f st k out. resuming T (inr (ap mayOpen st, e)) q (rw out (all-append Quiet (d .out) (answered (d .every) 0 point.Absent) o (answers Quiet (d .every) 0 point.Absent (refl, refl)))))
 
     -- a refusal over a finished file leaves all as it was
     refused-to : (m : Client) (k : ℕ) → Reads s m → eqb k 0 ≡ false → step (d .session) (d .area) (d .used) s ≡ refuse (d .session) (d .area) (d .used) k 0
-        → d .n ≡ length (records R) → All NoRestart ms → ((w : WholeRestart) → w .refusal ≡ k → w .carried ≡ true → All RestartOk (notedMember m w)) → To
+        → d .n ≡ length (records R) → All NoRestart ms → told stop (d .out ++ answered (d .every) k point.Absent) ≡ true
+        → ((w : WholeRestart) → w .refusal ≡ k → w .carried ≡ true → All RestartOk (notedMember m w)) → To
     unfolding after notedMember
-    refused-to m k r z gives e left notes =
+    refused-to m k r z gives e left stops notes =
         rw (hand-is s m d (refuse (d .session) (d .area) (d .used) k 0) (d .n) (r .read) gives (book-stays m (d .n) e))
         (record {
           holds = i .holds;
@@ -401,15 +456,18 @@ module _ (R : Recording) (storable : Storable R) (c : ℕ) (fits : length (fileB
           within = i .within;
           restarts-ok = all-append RestartOk (d .restarts) (notedMember m (record { refusal = k; carried = carried })) (i .restarts-ok)
               (notes _ refl (carried-is ∙ eq-eqb (d .n) (length (records R)) e));
-          out-ok = all-append (AnswerOk R (d .n)) (d .out) (toMessage k point.Absent ∷ []) (i .out-ok) (unpointed R (d .n) k (λ b. e), tt);
+          out-ok = all-append (AnswerOk R (d .n)) (d .out) (answered (d .every) k point.Absent) (i .out-ok)
+              (answers (AnswerOk R (d .n)) (d .every) k point.Absent (unpointed R (d .n) k (λ b. e)));
           point-ok = i .point-ok;
-          stage = over refl e left;
+          stage = over refl e left stops;
         })
 
     -- a session that is over refuses whatever comes
-    pub over-to : (m : Client) → Reads s m → ((w : WholeRestart) → notedMember m w ≡ []) → d .session .state ≡ Closed → d .n ≡ length (records R) → All NoRestart ms → To
-    over-to m r quiet h e left =
-        refused-to m 9 r refl (step-closed (d .session) (d .area) (d .used) s m r h) e left (λ w _ _. rw (quiet w) tt)
+    pub over-to : (m : Client) → Reads s m → ((w : WholeRestart) → notedMember m w ≡ []) → d .session .state ≡ Closed → d .n ≡ length (records R) → All NoRestart ms
+        → told stop (d .out) ≡ true → To
+    over-to m r quiet h e left stops =
+        refused-to m 9 r refl (step-closed (d .session) (d .area) (d .used) s m r h) e left (told-more stop (d .out) (answered (d .every) 9 point.Absent) stops)
+        (λ w _ _. rw (quiet w) tt)
 
     -- a restart of a finished file
     restart-finished : (v : Restart) → Reads s (restartMsg v) → restartFits v ≡ true → mayOpen (d .session .state) ≡ true → d .n ≡ length (records R) → All NoRestart ms → To
@@ -417,7 +475,7 @@ module _ (R : Recording) (storable : Storable R) (c : ℕ) (fits : length (fileB
     restart-finished v r h o k left =
         refused-to (restartMsg v) 13 r refl
         (step-finished (d .session) (d .area) (d .used) s v r h o within (records R) (ap recordsOf (i .holds .shows) ∙ read-whole R storable (d .n) k) (whole-finished R storable))
-        k left (λ w is carried-it. (is ∙ ap (λ (b : Bool). pick b 13 0) (sym carried-it), tt))
+        k left (told-finished stop (d .every) (d .out)) (λ w is carried-it. (is ∙ ap (λ (b : Bool). pick b 13 0) (sym carried-it), tt))
 
     -- a restart that is taken
     restart-taken : (v : Restart) → Reads s (restartMsg v) → restartFits v ≡ true → mayOpen (d .session .state) ≡ true
@@ -445,8 +503,9 @@ module _ (R : Recording) (storable : Storable R) (c : ℕ) (fits : length (fileB
           within = omega (arith, g .held);
           restarts-ok = all-append RestartOk (d .restarts) (record { refusal = 0; carried = carried } ∷ []) (i .restarts-ok)
               (ap (λ (b : Bool). pick b 13 0) (sym (carried-is ∙ ne-eqb (d .n) (length (records R)) (λ z. omega arith))), tt);
-          out-ok = all-append (AnswerOk R (suc (length K))) (d .out) (toMessage 0 point.Absent ∷ [])
-              (all-map Quiet (AnswerOk R (suc (length K))) (quiet-ok R (suc (length K))) (d .out) quiet) (unpointed R (suc (length K)) 0 (λ b. absurd (never b)), tt);
+          out-ok = all-append (AnswerOk R (suc (length K))) (d .out) (answered (d .every) 0 point.Absent)
+              (all-map Quiet (AnswerOk R (suc (length K))) (quiet-ok R (suc (length K))) (d .out) quiet)
+              (answers (AnswerOk R (suc (length K))) (d .every) 0 point.Absent (unpointed R (suc (length K)) 0 (λ b. absurd (never b))));
           point-ok = rw q good;
           stage = logging (record {
             stored-ones = K;
@@ -478,30 +537,32 @@ module _ (R : Recording) (storable : Storable R) (c : ℕ) (fits : length (fileB
 
   -- ---- any message that is lined up
 
-  pub handed : (p : Option ℕ) (s : Bytes) (m : Sent) (ms : List Sent) (d : Desk) → Says s m → Inv R c p (m ∷ ms) d → Inv R c p ms (hand R s d)
+  pub handed : (p : Option ℕ) (stop : Bool) (s : Bytes) (m : Sent) (ms : List Sent) (d : Desk) → Says s m → Inv R c p stop (m ∷ ms) d → Inv R c p stop ms (hand R s d)
   unfolding rest
-  handed p s m ms d y i = go (i .stage)
+  handed p stop s m ms d y i = go (i .stage)
     where
-      logged : (l : Logs R (m ∷ ms) (d .session) (d .used) (d .n)) (ts : List TimedRecord) → l .coming ≡ ts → m ∷ ms ≡ rest R ts → Inv R c p ms (hand R s d)
-      logged l [] e k = exit-to p d s ms (m ∷ ms) i l (rw (head-eq-of-cons-eq k) at y) e (tail-eq-of-cons-eq k)
-      logged l (t ∷ ts) e k = timed-to p d s ms (m ∷ ms) i l t ts (rw (head-eq-of-cons-eq k) at y) e (tail-eq-of-cons-eq k)
+      logged : (l : Logs R (m ∷ ms) (d .session) (d .used) (d .n)) (ts : List TimedRecord) → l .coming ≡ ts → m ∷ ms ≡ rest R ts → Inv R c p stop ms (hand R s d)
+      logged l [] e k = exit-to p stop d s ms (m ∷ ms) i l (rw (head-eq-of-cons-eq k) at y) e (tail-eq-of-cons-eq k)
+      logged l (t ∷ ts) e k = timed-to p stop d s ms (m ∷ ms) i l t ts (rw (head-eq-of-cons-eq k) at y) e (tail-eq-of-cons-eq k)
 
-      go : Stage R p (m ∷ ms) d → Inv R c p ms (hand R s d)
-      go (beginning (inl (h, e)) z) = hello-begins p d s ms (m ∷ ms) i (rw (head-eq-of-cons-eq e) at y) h (tail-eq-of-cons-eq e) z
-      go (beginning (inr (h, e)) z) = accept-to p d s ms (m ∷ ms) i (rw (head-eq-of-cons-eq e) at y) h (tail-eq-of-cons-eq e) z
-      go (resuming T (inl (h, e)) q o) = hello-resumes p d s ms (m ∷ ms) i T (rw (head-eq-of-cons-eq e) at y) h (tail-eq-of-cons-eq e) q o
-      go (resuming T (inr (h, e)) q o) = restart-to p d s ms (m ∷ ms) i T (rw (head-eq-of-cons-eq e) at y) h (tail-eq-of-cons-eq e) q o
+      go : Stage R p stop (m ∷ ms) d → Inv R c p stop ms (hand R s d)
+      go (beginning (inl (h, e)) z) = hello-begins p stop d s ms (m ∷ ms) i (rw (head-eq-of-cons-eq e) at y) h (tail-eq-of-cons-eq e) z
+      go (beginning (inr (h, e)) z) = accept-to p stop d s ms (m ∷ ms) i (rw (head-eq-of-cons-eq e) at y) h (tail-eq-of-cons-eq e) z
+      go (resuming T (inl (h, e)) q o) = hello-resumes p stop d s ms (m ∷ ms) i T (rw (head-eq-of-cons-eq e) at y) h (tail-eq-of-cons-eq e) q o
+      go (resuming T (inr (h, e)) q o) = restart-to p stop d s ms (m ∷ ms) i T (rw (head-eq-of-cons-eq e) at y) h (tail-eq-of-cons-eq e) q o
       go (logging l) = logged l (l .coming) refl (l .coming-is)
-      go (over h z unrestarted) = let r = reads-some s m y in over-to p d s ms (m ∷ ms) i (r .0) (r .1) (unnoted s m y (unrestarted .0)) h z (unrestarted .1)
+      go (over h z unrestarted stops) =
+          let r = reads-some s m y in over-to p stop d s ms (m ∷ ms) i (r .0) (r .1) (unnoted s m y (unrestarted .0)) h z (unrestarted .1) stops
 
   -- so do any number of them
-  pub record Handed (p : Option ℕ) (left : List Bytes) (d : Desk) : Type 0 where
+  pub record Handed (p : Option ℕ) (stop : Bool) (left : List Bytes) (d : Desk) : Type 0 where
     pub more : List Sent
     pub read-as : Lines left more
-    pub keeps : Inv R c p more d
+    pub keeps : Inv R c p stop more d
 
-  pub all-handed : (p : Option ℕ) (bs left : List Bytes) (ms : List Sent) (d : Desk) → Lines (bs ++ left) ms → Inv R c p ms d → Handed p left (handAll R bs d)
+  pub all-handed : (p : Option ℕ) (stop : Bool) (bs left : List Bytes) (ms : List Sent) (d : Desk) → Lines (bs ++ left) ms → Inv R c p stop ms d
+      → Handed p stop left (handAll R bs d)
   unfolding handAll
-  all-handed p [] left ms d r i = record { more = ms; read-as = r; keeps = i }
-  all-handed p (b ∷ bs) left [] d r i = absurd r
-  all-handed p (b ∷ bs) left (m ∷ ms) d r i = all-handed p bs left ms (hand R b d) (r .1) (handed p b m ms d (r .0) i)
+  all-handed p stop [] left ms d r i = record { more = ms; read-as = r; keeps = i }
+  all-handed p stop (b ∷ bs) left [] d r i = absurd r
+  all-handed p stop (b ∷ bs) left (m ∷ ms) d r i = all-handed p stop bs left ms (hand R b d) (r .1) (handed p stop b m ms d (r .0) i)

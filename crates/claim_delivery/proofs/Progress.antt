@@ -1,4 +1,4 @@
--- From any state that a list can reach, the sender can go on to a finished file.
+-- From any state that a list can reach, the sender can go on to a finished file and its stop.
 use Prim.Native.Nat.{ℕ, suc, _+_, _≤_, _<_}
 use native.Mathlib.Nat.{le-refl}
 use native.Mathlib.Omega.{arith}
@@ -20,14 +20,14 @@ use Rattle.claim_values.specs.Values.{TimedRecord}
 use Rattle.claim_delivery.specs.Recording.{Recording, records, time, greater}
 use Rattle.claim_delivery.specs.Sender.{Place, Sent, accept, restart, timed, exit, rest, messages, Says, Lines}
 use Rattle.claim_delivery.specs.Host.{frames, Answer, toTick, toMessage, Desk}
-use Rattle.claim_delivery.specs.World.{Connection, World, fresh, Event, opening, bytes, tick, arrival, break, withConnection, areaOf, opened, desk, settled, cameIn, arrived, inside, outside, happens, run, Fresh, Proper, AllProper}
+use Rattle.claim_delivery.specs.World.{Connection, World, fresh, Event, stoppedAfter, sending, opening, bytes, tick, arrival, break, withConnection, areaOf, opened, desk, settled, cameIn, arrived, inside, outside, happens, run, Fresh, Proper, AllProper}
 use Rattle.claim_delivery.specs.Demand.{Listed, Delivery, end}
 use Rattle.claim_delivery.specs.Progress.{Sendable, underWay, TellsEnd, Done, GoesOn, Progress}
 use Rattle.claim_delivery.proofs.Restarting.{restartable}
 use Rattle.claim_delivery.proofs.Sizes.{storable-sent}
 use Rattle.claim_delivery.proofs.Cutting.{Short, drain-short, none-left}
 use Rattle.claim_delivery.proofs.Files.{Storable}
-use Rattle.claim_delivery.proofs.Desk.{AnswerOk, Lead, Stage, beginning, resuming, logging, over, Inv}
+use Rattle.claim_delivery.proofs.Desk.{AnswerOk, Lead, Stage, beginning, resuming, logging, over, Inv, told}
 use Rattle.claim_delivery.proofs.Runs.{Whole, Link, LinkOk, WorldOk, run-ok, LatestOk}
 use Rattle.claim_delivery.proofs.Reached.{reached}
 
@@ -129,9 +129,9 @@ unfolding run
 run-bounded R [] w b = b
 run-bounded R (e ∷ es) w b = run-bounded R es (happens R w (w .connection) e) (happens-bounded R w (w .connection) e refl b)
 
-fresh-bounded : (blank : ℕ → Bytes) → Bounded (fresh blank)
+fresh-bounded : (every : Bool) (blank : ℕ → Bytes) → Bounded (fresh every blank)
 unfolding fresh
-fresh-bounded blank = record { bound = 0; unused = record { from = λ a h. refl; connected = tt; latest-there = tt } }
+fresh-bounded every blank = record { bound = 0; unused = record { from = λ a h. refl; connected = tt; latest-there = tt } }
 
 -- ---- the sender's messages
 
@@ -178,30 +178,68 @@ no-lead : {m : Sent} {l : List Sent} (R : Recording) (d : Desk) → Lead (d .ses
 no-lead R d (inl (h, e)) = nil≢cons e
 no-lead R d (inr (h, e)) = nil≢cons e
 
-over-at-end : (R : Recording) (c : ℕ) (p : Option ℕ) (d : Desk) → Inv R c p [] d → d .n ≡ length (records R)
-over-at-end R c p d i = go (i .stage)
+-- its area holds the whole recording, and the sender stops at what is under way
+record Ended (R : Recording) (stop : Bool) (d : Desk) : Type 0 where
+  all-in : d .n ≡ length (records R)
+  tells : told stop (d .out) ≡ true
+
+over-at-end : (R : Recording) (c : ℕ) (p : Option ℕ) (stop : Bool) (d : Desk) → Inv R c p stop [] d → Ended R stop d
+over-at-end R c p stop d i = go (i .stage)
   where
-    go : Stage R p [] d → d .n ≡ length (records R)
+    go : Stage R p stop [] d → Ended R stop d
     go (beginning l z) = absurd (no-lead R d l)
     go (resuming T l q o) = absurd (no-lead R d l)
     go (logging l) = absurd (some-rest R (l .coming) (l .coming-is))
-    go (over h z n) = z
+    go (over h z n t) = record { all-in = z; tells = t }
 
 lines-none : (ms : List Sent) → Lines [] ms → ms ≡ []
 lines-none [] l = refl
 lines-none (m ∷ ms) l = absurd l
 
+-- as many arrivals as there are answers
+arrivals : List Answer → List Event
+arrivals [] = []
+arrivals (a ∷ out) = arrival ∷ arrivals out
+
 -- ---- one more opening, and all its bytes
 
 module _ (R : Recording) (blank : ℕ → Bytes) where
   -- a connection with nothing lined up and no whole frame at the host has come to the recording's end
-  came-whole : (w : World) (c : Connection) → WorldOk R blank w → w .connection ≡ some c → c .line ≡ [] → Short (w .part) → w .book (c .area) ≡ length (records R)
+  came-whole : (w : World) (c : Connection) → WorldOk R blank w → w .connection ≡ some c → c .line ≡ [] → Short (w .part) → Ended R (w .stopped) (desk w c)
   unfolding desk
   came-whole w c ok e l s =
       let k : Link R blank w c = subst (LinkOk R blank w) e (ok .link) in
       let none-more : k .bodies ≡ [] = none-left (k .bodies) (w .part) (k .fit) (sym (append-nil (w .part)) ∙ ap (λ (z : Bytes). w .part ++ z) (sym l) ∙ k .lined) s in
       let end : k .coming ≡ [] = lines-none (k .coming) (subst (λ (b : List Bytes). Lines b (k .coming)) none-more (k .read-as)) in
-      over-at-end R (length (blank (c .area))) (k .sees) (desk w c) (subst (λ (ms : List Sent). Inv R (length (blank (c .area))) (k .sees) ms (desk w c)) end (k .inv))
+      over-at-end R (length (blank (c .area))) (k .sees) (w .stopped) (desk w c)
+      (subst (λ (ms : List Sent). Inv R (length (blank (c .area))) (k .sees) (w .stopped) ms (desk w c)) end (k .inv))
+
+  -- ---- all that is under way comes
+
+  -- nothing but what the sender knows changes
+  record Heard (w : World) (out : List Answer) : Type 0 where
+    proper : AllProper R (arrivals out) w
+    book-same : run R (arrivals out) w .book ≡ w .book
+    stop-is : run R (arrivals out) w .stopped ≡ told (w .stopped) out
+
+  heard : (out : List Answer) (w : World) (c : Connection) → w .connection ≡ some c → c .out ≡ out → Heard w out
+  unfolding arrivals run AllProper Proper happens inside arrived told
+  heard [] w c e o = record { proper = tt; book-same = refl; stop-is = refl }
+  heard (a ∷ out) w c e o =
+      let y : World = arrived w c (a ∷ out) in
+      let came : happens R w (w .connection) arrival ≡ y = ap (λ (x : Option Connection). happens R w x arrival) e ∙ ap (arrived w c) o in
+      let h : Heard y out = heard out y (sending c out) refl refl in
+      record {
+        proper = (subst (λ (x : Option Connection). Proper R w x arrival) (sym e) tt, subst (AllProper R (arrivals out)) (sym came) (h .proper));
+        book-same = ap (λ (x : World). run R (arrivals out) x .book) came ∙ h .book-same;
+        stop-is = ap (λ (x : World). run R (arrivals out) x .stopped) came ∙ h .stop-is;
+      }
+
+  -- a connection that has come to its end
+  record Finishes (w : World) : Type 0 where
+    last-one : Connection
+    connects : w .connection ≡ some last-one
+    ends : Ended R (w .stopped) (desk w last-one)
 
   -- bytes are always proper
   bytes-proper : (w : World) (o : Option Connection) (k : ℕ) → Proper R w o (bytes k)
@@ -214,6 +252,7 @@ module _ (R : Recording) (blank : ℕ → Bytes) where
     more : List Event
     proper : AllProper R more w
     whole : Whole R (run R more w .book)
+    stops : run R more w .stopped ≡ true
 
   module _ (storable : Storable R) (fits : (a : ℕ) → length (fileBytes (records R)) ≤ length (blank a)) (small : (a : ℕ) → length (blank a) ≤ 1073741824) where
     module _ (w : World) (ok : WorldOk R blank w) (unconnected : w .connection ≡ none) (on : w .stopped ≡ false) (a : ℕ) (is-fresh : Fresh w (w .latest) a)
@@ -250,14 +289,30 @@ module _ (R : Recording) (blank : ℕ → Bytes) where
       finish-ok : WorldOk R blank finish
       finish-ok = subst (WorldOk R blank) runs (run-ok R blank storable fits small last w is-proper ok)
 
-      finish-whole : finish .book (areaOf (w .latest) a) ≡ length (records R)
+      finishes : Finishes finish
       unfolding finish start connection inside cameIn opened line
-      finish-whole =
-          came-whole finish _ finish-ok refl (drop-of-length-le line (le-refl (length line)))
-          (drain-short (length (w .part ++ take (length line) line)) (w .part ++ take (length line) line) (le-refl _))
+      finishes = record {
+        last-one = _;
+        connects = refl;
+        ends = came-whole finish _ finish-ok refl (drop-of-length-le line (le-refl (length line)))
+            (drain-short (length (w .part ++ take (length line) line)) (w .part ++ take (length line) line) (le-refl _));
+      }
 
       goes-last : Goes w
-      goes-last = record { more = last; proper = is-proper; whole = record { place = areaOf (w .latest) a; is-whole = ap (λ (x : World). x .book (areaOf (w .latest) a)) runs ∙ finish-whole } }
+      unfolding desk
+      goes-last =
+          let c : Connection = finishes .last-one in
+          let h : Heard finish (c .out) = heard (c .out) finish c (finishes .connects) refl in
+          let all : run R (last ++ arrivals (c .out)) w ≡ run R (arrivals (c .out)) finish = run-append R last (arrivals (c .out)) w ∙ ap (run R (arrivals (c .out))) runs in
+          record {
+            more = last ++ arrivals (c .out);
+            proper = proper-append R last (arrivals (c .out)) w is-proper (subst (AllProper R (arrivals (c .out))) (sym runs) (h .proper));
+            whole = record {
+              place = c .area;
+              is-whole = ap (λ (x : World). x .book (c .area)) all ∙ ap (λ (b : ℕ → ℕ). b (c .area)) (h .book-same) ∙ finishes .ends .all-in;
+            };
+            stops = ap (λ (x : World). x .stopped) all ∙ h .stop-is ∙ finishes .ends .tells;
+          }
 
     fresh-at : (w : World) (b : Bounded w) (p : Option Place) → Fresh w p (b .bound)
     fresh-at w b none = b .unused .from (b .bound) (le-refl (b .bound))
@@ -275,7 +330,7 @@ module _ (R : Recording) (blank : ℕ → Bytes) where
       unconnected-goes w ok b e = go (w .stopped) refl
         where
           go : (x : Bool) → w .stopped ≡ x → Goes w
-          go true s = record { more = []; proper = tt; whole = ok .stopped-ok s }
+          go true s = record { more = []; proper = tt; whole = ok .stopped-ok s; stops = s }
           go false s =
               goes-last w ok e s (b .bound) (fresh-at w b (w .latest))
               (lined-messages R sends (w .latest) (λ p q. restartable (p .at) (point-within w ok p q)))
@@ -297,6 +352,7 @@ module _ (R : Recording) (blank : ℕ → Bytes) where
                 more = break ∷ g .more;
                 proper = (proper, subst (AllProper R (g .more)) (sym broken) (g .proper));
                 whole = subst (λ (x : World). Whole R (run R (g .more) x .book)) (sym broken) (g .whole);
+                stops = subst (λ (x : World). run R (g .more) x .stopped ≡ true) (sym broken) (g .stops);
               }
 
 -- ---- the claim
@@ -321,14 +377,15 @@ on-from : (d : Delivery) → Sendable (d .recording) → GoesOn d
 on-from d s =
     let R : Recording = d .recording in
     let x : Goes R (d .blank) (end d) = goes R (d .blank) (storable-sent R (d .given .valid) s) (d .given .fits) (d .given .in-range) s (end d) (reached d)
-    (run-bounded R (d .events) (fresh (d .blank)) (fresh-bounded (d .blank))) in
-    let all : Listed (d .blank) R (d .events ++ x .more) = proper-append R (d .events) (x .more) (fresh (d .blank)) (d .listed) (x .proper) in
-    let longer : Delivery = record { recording = R; blank = d .blank; given = d .given; events = d .events ++ x .more; listed = all } in
+    (run-bounded R (d .events) (fresh (d .every) (d .blank)) (fresh-bounded (d .every) (d .blank))) in
+    let all : Listed (d .every) (d .blank) R (d .events ++ x .more) = proper-append R (d .events) (x .more) (fresh (d .every) (d .blank)) (d .listed) (x .proper) in
+    let longer : Delivery = record { recording = R; blank = d .blank; given = d .given; events = d .events ++ x .more; every = d .every; listed = all } in
     record {
       more = x .more;
       listed = all;
       done = done R (d .blank) (end longer) (reached longer)
-          (subst (λ (w : World). Whole R (w .book)) (sym (run-append R (d .events) (x .more) (fresh (d .blank)))) (x .whole));
+          (subst (λ (w : World). Whole R (w .book)) (sym (run-append R (d .events) (x .more) (fresh (d .every) (d .blank)))) (x .whole));
+      stops = ap (λ (w : World). w .stopped) (run-append R (d .events) (x .more) (fresh (d .every) (d .blank))) ∙ x .stops;
     }
 
 pub progress : Progress

@@ -2,6 +2,7 @@
 -- so that it can be stored.
 use Prim.Native.Nat.{ℕ}
 use mathlib.Core.Path.{_≡_, refl, sym, subst}
+use mathlib.Core.Bool.{Bool}
 use mathlib.Core.List.{List, [], _∷_}
 use Rattle.wire_message.specs.Message.{Bytes}
 use Rattle.claim_delivery.specs.Recording.{Recording, Valid}
@@ -11,12 +12,12 @@ use Rattle.claim_delivery.proofs.Sizes.{storable-lined}
 use Rattle.claim_delivery.proofs.Runs.{WorldOk, fresh-ok, run-ok}
 use Rattle.claim_delivery.proofs.Files.{Storable}
 
-module _ (blank : ℕ → Bytes) (R : Recording) where
+module _ (every : Bool) (blank : ℕ → Bytes) (R : Recording) where
   pub data Came (w : World) : Type 0 where
-    unopened : w ≡ fresh blank → Came w
+    unopened : w ≡ fresh every blank → Came w
     opened : Storable R → Came w
 
-  came-from : Valid R → (es : List Event) → AllProper R es (fresh blank) → Came (run R es (fresh blank))
+  came-from : Valid R → (es : List Event) → AllProper R es (fresh every blank) → Came (run R es (fresh every blank))
   unfolding run AllProper Proper happens outside fresh
   came-from v [] p = unopened refl
   came-from v (opening h bs a ∷ es) p = opened (storable-lined R v h bs (p .0 refl .0))
@@ -26,14 +27,14 @@ module _ (blank : ℕ → Bytes) (R : Recording) where
   came-from v (break ∷ es) p = came-from v es (p .1)
 
 module _ (d : Delivery) where
-  pub came : Came (d .blank) (d .recording) (end d)
-  came = came-from (d .blank) (d .recording) (d .given .valid) (d .events) (d .listed)
+  pub came : Came (d .every) (d .blank) (d .recording) (end d)
+  came = came-from (d .every) (d .blank) (d .recording) (d .given .valid) (d .events) (d .listed)
 
   pub reached : WorldOk (d .recording) (d .blank) (end d)
   reached = go came
     where
-      go : Came (d .blank) (d .recording) (end d) → WorldOk (d .recording) (d .blank) (end d)
-      go (unopened e) = subst (WorldOk (d .recording) (d .blank)) (sym e) (fresh-ok (d .recording) (d .blank))
+      go : Came (d .every) (d .blank) (d .recording) (end d) → WorldOk (d .recording) (d .blank) (end d)
+      go (unopened e) = subst (WorldOk (d .recording) (d .blank)) (sym e) (fresh-ok (d .recording) (d .blank) (d .every))
       go (opened s) =
-          run-ok (d .recording) (d .blank) s (d .given .fits) (d .given .in-range) (d .events) (fresh (d .blank)) (d .listed)
-          (fresh-ok (d .recording) (d .blank))
+          run-ok (d .recording) (d .blank) s (d .given .fits) (d .given .in-range) (d .events) (fresh (d .every) (d .blank)) (d .listed)
+          (fresh-ok (d .recording) (d .blank) (d .every))

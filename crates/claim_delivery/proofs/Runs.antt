@@ -1,7 +1,7 @@
 -- The invariant of the world, and that each event keeps it.
 use Prim.Native.Nat.{ℕ, zero, suc, _≤_}
 use native.Mathlib.Omega.{arith}
-use mathlib.Core.Path.{_≡_, refl, ap, _∙_}
+use mathlib.Core.Path.{_≡_, refl, ap, sym, _∙_}
 use mathlib.Core.Logic.{_⊎_, inl, inr}
 use mathlib.Core.Bool.{Bool, true, false}
 use mathlib.Core.Option.{Option, none, some}
@@ -34,7 +34,7 @@ use Rattle.claim_delivery.proofs.Totals.{greater-is}
 use Rattle.claim_delivery.proofs.Cutting.{Fits, Left, drained}
 use Rattle.claim_delivery.proofs.Files.{Storable}
 use Rattle.claim_delivery.proofs.Areas.{Holds}
-use Rattle.claim_delivery.proofs.Desk.{Good, PointOk, AnswerOk, Quiet, MarkOk, Lead, Stage, beginning, resuming, logging, over, RestartOk, Inv, reads-some, all-handed}
+use Rattle.claim_delivery.proofs.Desk.{Good, PointOk, AnswerOk, Quiet, MarkOk, Lead, Stage, beginning, resuming, logging, over, RestartOk, Inv, told, reads-some, all-handed}
 
 -- the sender's latest point, seen from its area
 abbrev placed : ℕ → Option ℕ → Option Place
@@ -64,7 +64,7 @@ module _ (R : Recording) (blank : ℕ → Bytes) where
     pub lined : w .part ++ c .line ≡ frames bodies
     pub fit : All Fits bodies
     pub read-as : Lines bodies coming
-    pub inv : Inv R (length (blank (c .area))) sees coming (desk w c)
+    pub inv : Inv R (length (blank (c .area))) sees (w .stopped) coming (desk w c)
 
   abbrev pub LinkOk : World → Option Connection → Type 0
   LinkOk w none = w .part ≡ []
@@ -81,9 +81,9 @@ module _ (R : Recording) (blank : ℕ → Bytes) where
   never : false ≡ true → ⊥
   never e = let z : _≡_ {A = ℕ} 0 1 = cc in omega arith
 
-  pub fresh-ok : WorldOk (fresh blank)
+  pub fresh-ok : (every : Bool) → WorldOk (fresh every blank)
   unfolding fresh fileBytes
-  fresh-ok = record {
+  fresh-ok every = record {
     sizes = λ a. refl;
     areas = λ a. record { holds = record { shows = refl; used-is = refl }; within = omega arith };
     restarts-ok = tt;
@@ -124,17 +124,17 @@ module _ (R : Recording) (blank : ℕ → Bytes) where
       go true e = tt
       go false e = (g (let z = eqb-false total 0 e in omega arith), tt)
 
-  ticked-ok : (c : ℕ) (p : Option ℕ) (ms : List Sent) (d : Desk) → Inv R c p ms d → Inv R c p ms (Ticked d)
+  ticked-ok : (c : ℕ) (p : Option ℕ) (stop : Bool) (ms : List Sent) (d : Desk) → Inv R c p stop ms d → Inv R c p stop ms (Ticked d)
   unfolding Ticked session.tick pointIn
-  ticked-ok c p ms d i = go (i .stage)
+  ticked-ok c p stop ms d i = go (i .stage)
     where
       point : Point
       point = loggingPoint (d .session .mark) (d .session .total) (d .session .low)
 
-      go : Stage R p ms d → Inv R c p ms (Ticked d)
+      go : Stage R p stop ms d → Inv R c p stop ms (Ticked d)
       go (beginning l z) = rw (no-tick d (lead-quiet (d .session .state) point ms _ l)) i
       go (resuming T l q o) = rw (no-tick d (lead-quiet (d .session .state) point ms _ l)) i
-      go (over h z n) = rw (no-tick d (ap (λ (x : State). pointIn x point) h)) i
+      go (over h z n t) = rw (no-tick d (ap (λ (x : State). pointIn x point) h)) i
       go (logging l) = record {
         holds = i .holds;
         sized = i .sized;
@@ -162,14 +162,14 @@ module _ (R : Recording) (blank : ℕ → Bytes) where
       lined = l .lined;
       fit = l .fit;
       read-as = l .read-as;
-      inv = ticked-ok (length (blank (c .area))) (l .sees) (l .coming) (desk w c) (l .inv);
+      inv = ticked-ok (length (blank (c .area))) (l .sees) (w .stopped) (l .coming) (desk w c) (l .inv);
     };
   }
 
   -- ---- what the desk has come to, put back into the world
 
   settled-ok : (w : World) (c : Connection) (d : Desk) (line part : Bytes) (p : Option ℕ) (bodies : List Bytes) (coming : List Sent)
-      → WorldOk w → w .latest ≡ placed (c .area) p → part ++ line ≡ frames bodies → All Fits bodies → Lines bodies coming → Inv R (length (blank (c .area))) p coming d
+      → WorldOk w → w .latest ≡ placed (c .area) p → part ++ line ≡ frames bodies → All Fits bodies → Lines bodies coming → Inv R (length (blank (c .area))) p (w .stopped) coming d
       → (w .book (c .area) ≡ length (records R) → d .n ≡ length (records R)) → WorldOk (settled w c d line part)
   unfolding desk
   settled-ok w c d line part p bodies coming ok e lined fit r i full = record {
@@ -221,9 +221,10 @@ module _ (R : Recording) (blank : ℕ → Bytes) where
 
   -- ---- an arrival: whatever comes first, the invariant holds with the sender's new latest point
 
-  came : (c : ℕ) (p q : Option ℕ) (ms : List Sent) (d : Desk) (a : Answer) (out : List Answer) → d .out ≡ a ∷ out → Inv R c p ms d → PointOk R (d .n) q → (Quiet a → q ≡ p)
-      → Inv R c q ms (withOut d out)
-  came c p q ms d a out e i g same = record {
+  came : (c : ℕ) (p q : Option ℕ) (stop : Bool) (ms : List Sent) (d : Desk) (a : Answer) (out : List Answer) → d .out ≡ a ∷ out → Inv R c p stop ms d → PointOk R (d .n) q
+      → (Quiet a → q ≡ p) → Inv R c q (stoppedAfter stop a) ms (withOut d out)
+  unfolding told
+  came c p q stop ms d a out e i g same = record {
     holds = i .holds;
     sized = i .sized;
     within = i .within;
@@ -233,21 +234,21 @@ module _ (R : Recording) (blank : ℕ → Bytes) where
     stage = go (i .stage);
   }
     where
-      go : Stage R p ms d → Stage R q ms (withOut d out)
+      go : Stage R p stop ms d → Stage R q (stoppedAfter stop a) ms (withOut d out)
       go (beginning l z) = beginning l z
       go (resuming T l h o) = let z = rw e at o in resuming T l (same (z .0) ∙ h) (z .1)
-      go (over h z n) = over h z n
+      go (over h z n t) = over h z n (ap (told stop) (sym e) ∙ t)
       go (logging l) = logging l
 
   point-place : (book : ℕ → ℕ) (a : ℕ) (q : Option ℕ) → PointOk R (book a) q → LatestOk R book (placed a q)
   point-place book a none g = tt
   point-place book a (some T) g = g
 
-  moved : (w : World) (c : Connection) (a : Answer) (out : List Answer) (q : Option ℕ) (latest : Option Place) (stopped : Bool) → WorldOk w → (l : Link w c)
-      → c .out ≡ a ∷ out → latest ≡ placed (c .area) q → PointOk R (w .book (c .area)) q → (Quiet a → q ≡ l .sees) → (stopped ≡ true → Whole R (w .book))
-      → WorldOk (withConnection w latest stopped (w .part) (some (sending c out)))
+  moved : (w : World) (c : Connection) (a : Answer) (out : List Answer) (q : Option ℕ) (latest : Option Place) → WorldOk w → (l : Link w c)
+      → c .out ≡ a ∷ out → latest ≡ placed (c .area) q → PointOk R (w .book (c .area)) q → (Quiet a → q ≡ l .sees) → (stoppedAfter (w .stopped) a ≡ true → Whole R (w .book))
+      → WorldOk (withConnection w latest (stoppedAfter (w .stopped) a) (w .part) (some (sending c out)))
   unfolding desk
-  moved w c a out q latest stopped ok l e p g same s = record {
+  moved w c a out q latest ok l e p g same s = record {
     sizes = ok .sizes;
     areas = ok .areas;
     restarts-ok = ok .restarts-ok;
@@ -261,7 +262,7 @@ module _ (R : Recording) (blank : ℕ → Bytes) where
       lined = l .lined;
       fit = l .fit;
       read-as = l .read-as;
-      inv = came (length (blank (c .area))) (l .sees) q (l .coming) (desk w c) a out e (l .inv) g same;
+      inv = came (length (blank (c .area))) (l .sees) q (w .stopped) (l .coming) (desk w c) a out e (l .inv) g same;
     };
   }
 
@@ -273,9 +274,9 @@ module _ (R : Recording) (blank : ℕ → Bytes) where
   unfolding arrived desk
   arrival-ok w c ok l [] e = ok
   arrival-ok w c ok l (toTick T ∷ out) e =
-      moved w c (toTick T) out (some T) (some (record { area = c .area; at = T })) (w .stopped) ok l e refl ((rw e at (l .inv .out-ok)) .0) (λ z. absurd z) (ok .stopped-ok)
+      moved w c (toTick T) out (some T) (some (record { area = c .area; at = T })) ok l e refl ((rw e at (l .inv .out-ok)) .0) (λ z. absurd z) (ok .stopped-ok)
   arrival-ok w c ok l (toMessage k p ∷ out) e =
-      moved w c (toMessage k p) out (l .sees) (w .latest) (stoppedAfter (w .stopped) (toMessage k p)) ok l e (l .latest-is) (l .inv .point-ok) (λ z. refl)
+      moved w c (toMessage k p) out (l .sees) (w .latest) ok l e (l .latest-is) (l .inv .point-ok) (λ z. refl)
       (λ s. go (stopped-before (w .stopped) (toMessage k p) s))
     where
       go : (w .stopped ≡ true) ⊎ (stoppedAfter false (toMessage k p) ≡ true) → Whole R (w .book)
@@ -381,7 +382,7 @@ module _ (R : Recording) (blank : ℕ → Bytes) where
         go : (b : Drained) → Left (l .bodies) (drop k (c .line)) b → WorldOk (cameIn R w c (drop k (c .line)) b)
         go b left =
             let a : ℕ = c .area in
-            let h = all-handed R storable (length (blank a)) (fits a) (small a) (l .sees) (b .messages) (left .coming) (l .coming) (desk w c)
+            let h = all-handed R storable (length (blank a)) (fits a) (small a) (l .sees) (w .stopped) (b .messages) (left .coming) (l .coming) (desk w c)
             (rw (left .split) at (l .read-as)) (l .inv) in
             settled-ok w c (handAll R (b .messages) (desk w c)) (drop k (c .line)) (b .left) (l .sees) (left .coming) (h .more) ok (l .latest-is) (left .lined)
             (all-right Fits (b .messages) (left .coming) (rw (left .split) at (l .fit))) (h .read-as) (h .keeps) (λ e. full-stays (b .messages) (desk w c) e)

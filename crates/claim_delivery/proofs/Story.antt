@@ -2,6 +2,7 @@
 use Prim.Native.Nat.{ℕ}
 use native.Mathlib.Omega.{arith}
 use mathlib.Core.Path.{_≡_, refl}
+use mathlib.Core.Bool.{true}
 use mathlib.Core.List.{[], _∷_}
 use lib.IntN.{pos}
 use lib.ListN.{take}
@@ -33,11 +34,11 @@ unfolding v.timedMember d.rest d.messages h.frame h.frames
 sending = tt
 
 hosting : Unit {0}
-unfolding lengthOf cutOf h.drainCut h.drain h.countedMember h.counted h.booked h.carries h.notedMember h.noted h.hand h.handAll
+unfolding lengthOf cutOf h.drainCut h.drain h.countedMember h.counted h.booked h.carries h.notedMember h.noted h.isPoint h.answered h.hand h.handAll
 hosting = tt
 
 happening : Unit {0}
-unfolding w.fresh w.opened w.desk w.cameIn w.tickAnswers w.isPoint w.arrived w.inside w.outside w.happens w.run w.Proper w.AllProper
+unfolding w.fresh w.opened w.desk w.cameIn w.tickAnswers w.arrived w.inside w.outside w.happens w.run w.Proper w.AllProper
 happening = tt
 
 pub story : o.Story
@@ -145,7 +146,7 @@ story = record {
 
 -- what demand 3 says of it
 delivery : x.Delivery
-delivery = record { recording = o.recording; blank = o.blank; given = story .given; events = o.story; listed = story .listed }
+delivery = record { recording = o.recording; blank = o.blank; given = story .given; events = o.story; every = true; listed = story .listed }
 
 told : (a : ℕ) → w.file (x.end delivery) a ≡ f.fileBytes (take (x.end delivery .book a) (r.records o.recording))
 unfolding delivery

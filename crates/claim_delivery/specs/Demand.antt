@@ -1,6 +1,7 @@
 -- Demand 3, as one statement about the list.
 use Prim.Native.Nat.{ℕ, _≤_}
 use mathlib.Core.Path.{_≡_}
+use mathlib.Core.Bool.{Bool}
 use mathlib.Core.List.{List}
 use lib.ListN.{length, take}
 use Rattle.base_laws.specs.Base.{pick, All}
@@ -19,12 +20,12 @@ pub record Given (blank : ℕ → Bytes) (R : Recording) : Type 0 where
   pub in-range : (a : ℕ) → length (blank a) ≤ 1073741824
 
 -- "document 01's openings, bytes, ticks, arrivals and breaks", from fresh areas with these bytes
-abbrev pub Listed : (ℕ → Bytes) → Recording → List Event → Type 0
-Listed blank R es = AllProper R es (fresh blank)
+abbrev pub Listed : Bool → (ℕ → Bytes) → Recording → List Event → Type 0
+Listed every blank R es = AllProper R es (fresh every blank)
 
 -- the world after a list
-abbrev pub after : (ℕ → Bytes) → Recording → List Event → World
-after blank R es = run R es (fresh blank)
+abbrev pub after : Bool → (ℕ → Bytes) → Recording → List Event → World
+after every blank R es = run R es (fresh every blank)
 
 -- "Take any recording"; "For every list of document 01's openings, bytes, ticks, arrivals and breaks, refused messages included,
 -- from a fresh area with no connection, nobody else writing, whichever byte the line breaks at"
@@ -33,11 +34,13 @@ pub record Delivery : Type 0 where
   pub blank : ℕ → Bytes
   pub given : Given blank recording
   pub events : List Event
-  pub listed : Listed blank recording events
+  -- both readings of "answers under way"
+  pub every : Bool
+  pub listed : Listed every blank recording events
 
 -- "after it"
 abbrev pub end : Delivery → World
-end d = after (d .blank) (d .recording) (d .events)
+end d = after (d .every) (d .blank) (d .recording) (d .events)
 
 -- an area's file carries an exit
 abbrev pub Carries : World → ℕ → Type 0

@@ -1,11 +1,11 @@
 -- The host. Document 01: "the host cuts frames and hands each whole message to the session." It hands on the used length last
 -- answered, and keeps the book and a log of whole restarts.
 use Prim.Native.Nat.{ℕ, zero, suc, _+_}
-use mathlib.Core.Bool.{Bool, true, false}
+use mathlib.Core.Bool.{Bool, true, false, not}
 use mathlib.Core.List.{List, [], _∷_, _++_}
 use lib.ListN.{length, take, drop}
 use lib.Dec.{eqb}
-use Rattle.base_laws.specs.Base.{pick}
+use Rattle.base_laws.specs.Base.{pick, both}
 use Rattle.wire_frame.specs.Frame.{cutOf}
 use Rattle.wire_frame.specs.declared.Cut.{Cut}
 use Rattle.wire_frame.specs.declared.Cut.the-variants.{Wait, Frame, Refused}
@@ -16,6 +16,7 @@ use Rattle.file_format.specs.File.{FileKind, invalid, unfinished, finished, fil
 use Rattle.session.specs.Step.{Outcome, step, moment}
 use Rattle.session.specs.declared.Session.{Session}
 use Rattle.session.specs.declared.Point.{Point}
+use Rattle.session.specs.declared.Point.the-variants as point
 use Rattle.claim_delivery.specs.Recording.{Recording, records, atMost}
 
 -- ---- frames. "Four bytes, most significant first, give the message length; then the message."
@@ -102,7 +103,17 @@ pub data Answer : Type 0 where
   toTick : ℕ → Answer
   toMessage : ℕ → Point → Answer
 
--- a connection at the host: its session, the lent area with its used length and its n; the log; the answers under way
+unfoldable pub isPoint : Point → Bool
+isPoint point.Absent = false
+isPoint (point.At t) = true
+
+-- what goes under way for a message. Document 01 leaves open whether an answer without a point and without a refusal does: with `every` it
+-- does, else it does not
+unfoldable pub answered : Bool → ℕ → Point → List Answer
+answered every k p = pick (both (not every) (both (eqb k 0) (not (isPoint p)))) [] (toMessage k p ∷ [])
+
+-- a connection at the host: its session, the lent area with its used length and its n; the log; the answers under way, and whether they are
+-- every answer
 pub record Desk : Type 0 where
   pub session : Session
   pub area : Bytes
@@ -110,10 +121,11 @@ pub record Desk : Type 0 where
   pub n : ℕ
   pub restarts : List WholeRestart
   pub out : List Answer
+  pub every : Bool
 
 -- the desk with other answers under way
 abbrev pub withOut : Desk → List Answer → Desk
-withOut d out = record { session = d .session; area = d .area; used = d .used; n = d .n; restarts = d .restarts; out = out }
+withOut d out = record { session = d .session; area = d .area; used = d .used; n = d .n; restarts = d .restarts; out = out; every = d .every }
 
 -- a restart that the session answered so
 abbrev pub restartNote : Desk → Outcome → WholeRestart
@@ -127,7 +139,8 @@ deskAfter d o n more = record {
   used = o .used;
   n = n;
   restarts = d .restarts ++ more;
-  out = d .out ++ (toMessage (o .refusal) (o .point) ∷ []);
+  out = d .out ++ answered (d .every) (o .refusal) (o .point);
+  every = d .every;
 }
 
 -- "Each event goes on from what the last one left."

@@ -1,5 +1,5 @@
 -- Beyond the letter of demand 3: a sender that has stopped has its whole recording in a file, and from any state that a list can
--- reach it can go on to a finished file. So a session that refuses all, or answers nothing, does not do.
+-- reach it can go on to a finished file and its stop. So a session that refuses all, or answers nothing, does not do.
 use Prim.Native.Nat.{ℕ, _<_}
 use mathlib.Core.Path.{_≡_}
 use mathlib.Core.Bool.{true}
@@ -37,11 +37,12 @@ pub record Done (R : Recording) (w : World) : Type 0 where
   pub area : ℕ
   pub whole : file w area ≡ fileBytes (records R)
 
--- the list goes on to one
+-- the list goes on to one, and the sender to its stop
 pub record GoesOn (d : Delivery) : Type 0 where
   pub more : List Event
-  pub listed : Listed (d .blank) (d .recording) (d .events ++ more)
-  pub done : Done (d .recording) (after (d .blank) (d .recording) (d .events ++ more))
+  pub listed : Listed (d .every) (d .blank) (d .recording) (d .events ++ more)
+  pub done : Done (d .recording) (after (d .every) (d .blank) (d .recording) (d .events ++ more))
+  pub stops : after (d .every) (d .blank) (d .recording) (d .events ++ more) .stopped ≡ true
 
 pub record Progress : Type 0 where
   -- "It stops at its exit's point or at the refusal "finished"": by then a file holds all

@@ -55,14 +55,14 @@ story = first ++ (second ++ third)
 pub record Story : Type 0 where
   -- what the theorem requires is met
   pub given : Given blank recording
-  pub listed : Listed blank recording story
+  pub listed : Listed true blank recording story
   -- four timed records before the break, and the point before the last of them
-  pub first-book : after blank recording first .book 5 ≡ 5
-  pub first-point : after blank recording first .latest ≡ some (record { area = 5; at = 1000000000 })
+  pub first-book : after true blank recording first .book 5 ≡ 5
+  pub first-point : after true blank recording first .latest ≡ some (record { area = 5; at = 1000000000 })
   -- the exit's point was lost
-  pub second-book : after blank recording (first ++ second) .book 5 ≡ 6
-  pub second-on : after blank recording (first ++ second) .stopped ≡ false
+  pub second-book : after true blank recording (first ++ second) .book 5 ≡ 6
+  pub second-on : after true blank recording (first ++ second) .stopped ≡ false
   -- the one restart was taken, the other not
-  pub restarts : after blank recording story .restarts ≡ record { refusal = 0; carried = false } ∷ record { refusal = 13; carried = true } ∷ []
-  pub stopped : after blank recording story .stopped ≡ true
-  pub whole : file (after blank recording story) 5 ≡ fileBytes (records recording)
+  pub restarts : after true blank recording story .restarts ≡ record { refusal = 0; carried = false } ∷ record { refusal = 13; carried = true } ∷ []
+  pub stopped : after true blank recording story .stopped ≡ true
+  pub whole : file (after true blank recording story) 5 ≡ fileBytes (records recording)

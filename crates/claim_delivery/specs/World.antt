@@ -14,7 +14,7 @@ use Rattle.session.specs.declared.Point.{Point}
 use Rattle.session.specs.declared.Point.the-variants as point
 use Rattle.claim_delivery.specs.Recording.{Recording}
 use Rattle.claim_delivery.specs.Sender.{Place, messages, withHello, Lines}
-use Rattle.claim_delivery.specs.Host.{frames, Drained, cutAll, WholeRestart, Answer, toTick, toMessage, Desk, handAll}
+use Rattle.claim_delivery.specs.Host.{frames, Drained, cutAll, WholeRestart, Answer, toTick, toMessage, isPoint, Desk, handAll}
 
 -- a connection: its area, its session, the bytes lined up, the answers under way
 pub record Connection : Type 0 where
@@ -28,7 +28,7 @@ abbrev pub sending : Connection → List Answer → Connection
 sending c out = record { area = c .area; session = c .session; line = c .line; out = out }
 
 -- the areas by number: whole lent bytes, used length, n in the book; the log of whole restarts; the sender's latest point and
--- whether it has stopped; the bytes at the host of a frame cut in part; the connection
+-- whether it has stopped; the bytes at the host of a frame cut in part; the connection; and whether every answer goes under way
 pub record World : Type 0 where
   pub area : ℕ → Bytes
   pub used : ℕ → ℕ
@@ -38,14 +38,15 @@ pub record World : Type 0 where
   pub stopped : Bool
   pub part : Bytes
   pub connection : Option Connection
+  pub every : Bool
 
 -- an area's used bytes
 abbrev pub file : World → ℕ → Bytes
 file w a = take (w .used a) (w .area a)
 
 -- "from a fresh area with no connection"; "The book has n for each area, 0 when fresh (used length 0)"
-unfoldable pub fresh : (ℕ → Bytes) → World
-fresh blank = record {
+unfoldable pub fresh : Bool → (ℕ → Bytes) → World
+fresh every blank = record {
   area = blank;
   used = λ a. 0;
   book = λ a. 0;
@@ -54,6 +55,7 @@ fresh blank = record {
   stopped = false;
   part = [];
   connection = none;
+  every = every;
 }
 
 pub data Event : Type 0 where
@@ -75,6 +77,7 @@ withConnection w latest stopped part c = record {
   stopped = stopped;
   part = part;
   connection = c;
+  every = w .every;
 }
 
 -- ---- "An opening starts a new session"
@@ -100,7 +103,7 @@ abbrev pub put : {A : Type 0} → ℕ → A → (ℕ → A) → ℕ → A
 put a x f b = pick (eqb a b) x (f b)
 
 unfoldable pub desk : World → Connection → Desk
-desk w c = record { session = c .session; area = w .area (c .area); used = w .used (c .area); n = w .book (c .area); restarts = w .restarts; out = c .out }
+desk w c = record { session = c .session; area = w .area (c .area); used = w .used (c .area); n = w .book (c .area); restarts = w .restarts; out = c .out; every = w .every }
 
 -- the world after whole messages, with what is left of the line and of the bytes at the host
 abbrev pub settled : World → Connection → Desk → Bytes → Bytes → World
@@ -113,6 +116,7 @@ settled w c d line part = record {
   stopped = w .stopped;
   part = part;
   connection = some (record { area = c .area; session = d .session; line = line; out = d .out });
+  every = d .every;
 }
 
 unfoldable pub cameIn : Recording → World → Connection → Bytes → Drained → World
@@ -132,10 +136,6 @@ latestAfter a l (toTick t) = some (record { area = a; at = t })
 latestAfter a l (toMessage k p) = l
 
 -- "It stops at its exit's point or at the refusal "finished"." Of messages only an exit is answered with a point.
-unfoldable pub isPoint : Point → Bool
-isPoint point.Absent = false
-isPoint (point.At t) = true
-
 abbrev pub stoppedAfter : Bool → Answer → Bool
 stoppedAfter b (toTick t) = b
 stoppedAfter b (toMessage k p) = pick (eqb k 13) true (pick (isPoint p) true b)

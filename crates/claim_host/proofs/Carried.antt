@@ -149,7 +149,7 @@ runs-same R (e ∷ es) x z =
 
 same-world : (d : Delivery) → seenWorld (endC d) ≡ end d
 unfolding freshC fresh
-same-world d = runs-same (d .recording) (d .events) (freshC (d .blank)) (record { forty = tt; words = λ a. omega arith })
+same-world d = runs-same (d .recording) (d .events) (freshC (d .every) (d .blank)) (record { forty = tt; words = λ a. omega arith })
 
 whole-file : (d : Delivery) (a : ℕ) → fileKind (fileC (endC d) a) ≡ finished → fileC (endC d) a ≡ fileBytes (records (d .recording))
 whole-file d a = rw (← same-world d) at (demand-3 .finished d a)

@@ -1,6 +1,7 @@
 -- Demand 3's host in C: it keeps a session as 40 bytes and reads every answer from numbers. Wherever crates/claim_delivery/specs/Host.antt
 -- takes what a definition gives, this takes what a function of sudolog.h returns.
 use Prim.Native.Nat.{ℕ}
+use mathlib.Core.Bool.{Bool}
 use mathlib.Core.List.{List, [], _∷_, _++_}
 use lib.ListN.{take, replicate}
 use lib.Dec.{eqb}
@@ -16,7 +17,7 @@ use Rattle.session.specs.declared.Point.the-variants as point
 use Rattle.session_bytes.specs.Saved.{sessionOf}
 use Rattle.c_session.specs.Session.{messageAnswer, messageSlice, messageArea, messageOut}
 use Rattle.claim_delivery.specs.Recording.{Recording}
-use Rattle.claim_delivery.specs.Host.{booked, noted, carries, WholeRestart, Answer, toMessage, Desk}
+use Rattle.claim_delivery.specs.Host.{booked, noted, carries, WholeRestart, Answer, answered, Desk}
 
 -- ---- what it reads from numbers
 
@@ -45,10 +46,11 @@ pub record CDesk : Type 0 where
   pub n : ℕ
   pub restarts : List WholeRestart
   pub out : List Answer
+  pub every : Bool
 
 -- the desk of demand 3 that it stands for
 abbrev pub seen : CDesk → Desk
-seen d = record { session = sessionOf (d .slice); area = d .area; used = d .used; n = d .n; restarts = d .restarts; out = d .out }
+seen d = record { session = sessionOf (d .slice); area = d .area; used = d .used; n = d .n; restarts = d .restarts; out = d .out; every = d .every }
 
 -- room for the five numbers
 abbrev pub room : Bytes
@@ -65,7 +67,8 @@ handC R s d =
       used = usedIn out;
       n = booked R (clientMessage s) (d .n);
       restarts = d .restarts ++ noted (clientMessage s) (record { refusal = answer; carried = carries (fileKind (take (d .used) (d .area))) });
-      out = d .out ++ (toMessage answer (pointIn out) ∷ []);
+      out = d .out ++ answered (d .every) answer (pointIn out);
+      every = d .every;
     }
 
 unfoldable pub handAllC : Recording → List Bytes → CDesk → CDesk

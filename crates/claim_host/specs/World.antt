@@ -34,6 +34,7 @@ pub record CWorld : Type 0 where
   pub stopped : Bool
   pub part : Bytes
   pub connection : Option CConnection
+  pub every : Bool
 
 -- ---- the world of demand 3 that it stands for
 
@@ -54,12 +55,23 @@ seenWorld x = record {
   stopped = x .stopped;
   part = x .part;
   connection = seenOption (x .connection);
+  every = x .every;
 }
 
 -- ---- its events
 
-unfoldable pub freshC : (ℕ → Bytes) → CWorld
-freshC blank = record { area = blank; used = λ a. 0; book = λ a. 0; restarts = []; latest = none; stopped = false; part = []; connection = none }
+unfoldable pub freshC : Bool → (ℕ → Bytes) → CWorld
+freshC every blank = record {
+  area = blank;
+  used = λ a. 0;
+  book = λ a. 0;
+  restarts = [];
+  latest = none;
+  stopped = false;
+  part = [];
+  connection = none;
+  every = every;
+}
 
 abbrev pub with : CWorld → Option Place → Bool → Bytes → Option CConnection → CWorld
 with x latest stopped part c = record {
@@ -71,6 +83,7 @@ with x latest stopped part c = record {
   stopped = stopped;
   part = part;
   connection = c;
+  every = x .every;
 }
 
 -- sudolog_session_open, in 40 bytes
@@ -84,7 +97,7 @@ drainC zero b = record { messages = []; left = b }
 drainC (suc k) b = drainCut (drainC k) b (cutFrom (frameState (cutOf b)) (countOf (cutOf b)))
 
 unfoldable pub deskC : CWorld → CConnection → CDesk
-deskC x c = record { slice = c .slice; area = x .area (c .area); used = x .used (c .area); n = x .book (c .area); restarts = x .restarts; out = c .out }
+deskC x c = record { slice = c .slice; area = x .area (c .area); used = x .used (c .area); n = x .book (c .area); restarts = x .restarts; out = c .out; every = x .every }
 
 abbrev pub settledC : CWorld → CConnection → CDesk → Bytes → Bytes → CWorld
 settledC x c d line part = record {
@@ -96,6 +109,7 @@ settledC x c d line part = record {
   stopped = x .stopped;
   part = part;
   connection = some (record { area = c .area; slice = d .slice; line = line; out = d .out });
+  every = d .every;
 }
 
 unfoldable pub cameInC : Recording → CWorld → CConnection → Bytes → Drained → CWorld
@@ -135,4 +149,4 @@ module _ (R : Recording) where
 
 -- after a list
 abbrev pub endC : Delivery → CWorld
-endC d = runC (d .recording) (d .events) (freshC (d .blank))
+endC d = runC (d .recording) (d .events) (freshC (d .every) (d .blank))
