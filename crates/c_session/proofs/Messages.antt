@@ -1,14 +1,13 @@
 -- A message in a session that a slice keeps: the answer, the slice, the area and the numbers laid.
-use Prim.Native.Nat.{ℕ}
+use Prim.Native.Nat.{ℕ, _≤_, _<_}
 use mathlib.Core.Path.{_≡_, ap, _∙_}
-use mathlib.Core.Bool.{Bool}
 use mathlib.Core.List.{[], _∷_}
 use lib.ListN.{length}
-use lib.Dec.{leb}
-use Rattle.base_laws.specs.Base.{pick}
+use borrow.Author.Tests.{le-leb, lt-leb}
 use Rattle.wire_message.specs.Message.{Bytes}
 use Rattle.base_numbers.specs.Eight.{laid}
-use Rattle.session.specs.Step.{Outcome, outcome, refuse, step}
+use Rattle.session.specs.Step.{Outcome, outcome, inState, refuse, step}
+use Rattle.session_turn.specs.declared.State.the-variants.{Closed}
 use Rattle.session.specs.declared.Session.{Session}
 use Rattle.session.specs.declared.Answer.{Answer}
 use Rattle.session_bytes.specs.Saved.{stateNumber, sessionOf, kept}
@@ -22,28 +21,41 @@ module _ (slice message area : Bytes) (used : ℕ) (out : Bytes) where
       × ((slice′ ≡ messageSlice slice message area used out)
       × ((area′ ≡ messageArea slice message area used out) × (out′ ≡ messageOut slice message area used out)))
 
-  module _ (se : Session) (room : Bool) (a : Answer) (slice′ area′ out′ : Bytes) (loaded : se ≡ sessionOf slice) (has-room : room ≡ leb 40 (length out))
-      (gives : outcome a area′ ≡ pick room (step se area used message) (refuse se area used 12 0)) where
-    is : outcome a area′ ≡ stepped slice message area used out
-    unfolding stepped
-    is = gives ∙ ap (λ (x : Session). pick room (step x area used message) (refuse x area used 12 0)) loaded
-        ∙ ap (λ (b : Bool). pick b (step (sessionOf slice) area used message) (refuse (sessionOf slice) area used 12 0)) has-room
+  -- no room for the answer: the session is closed, and nothing else is touched
+  shut : length out < 40 → refuse (sessionOf slice) area used 12 0 ≡ stepped slice message area used out
+  unfolding stepped
+  shut h = rw (lt-leb 40 (length out) h)
 
-    pub answered : (p q n : ℕ) → slice′ ≡ kept (a .session) slice
+  pub no-room : length out < 40 → (slice′ : Bytes) → slice′ ≡ kept (inState (sessionOf slice) Closed) slice → Answered 12 slice′ area out
+  unfolding messageAnswer messageSlice messageArea messageOut laid answerNumbers
+  no-room h slice′ e = (
+    ap (λ (o : Outcome). o .refusal) (shut h),
+    (
+      e ∙ ap (λ (o : Outcome). kept (o .session) slice) (shut h),
+      (ap (λ (o : Outcome). o .area) (shut h), rw (lt-leb 40 (length out) h)),
+    ),
+  )
+
+  module _ (se : Session) (a : Answer) (slice′ area′ out′ : Bytes) (loaded : se ≡ sessionOf slice) (gives : outcome a area′ ≡ step se area used message) where
+    is : 40 ≤ length out → outcome a area′ ≡ stepped slice message area used out
+    unfolding stepped
+    is h = gives ∙ ap (λ (x : Session). step x area used message) loaded ∙ rw (le-leb 40 (length out) h)
+
+    pub answered : 40 ≤ length out → (p q n : ℕ) → slice′ ≡ kept (a .session) slice
         → p ≡ hasPoint (a .point) → q ≡ pointNumber (a .point) → n ≡ stateNumber (a .session .state)
         → out′ ≡ laid (a .used ∷ a .key ∷ p ∷ q ∷ n ∷ []) out → Answered (a .refusal) slice′ area′ out′
     unfolding messageAnswer messageSlice messageArea messageOut answerNumbers
-    answered p q n saved has point state laying = (
-      ap (λ (o : Outcome). o .refusal) is,
+    answered h p q n saved has point state laying = (
+      ap (λ (o : Outcome). o .refusal) (is h),
       (
-        saved ∙ ap (λ (o : Outcome). kept (o .session) slice) is,
+        saved ∙ ap (λ (o : Outcome). kept (o .session) slice) (is h),
         (
-          ap (λ (o : Outcome). o .area) is,
+          ap (λ (o : Outcome). o .area) (is h),
           laying
               ∙ ap (λ (x : ℕ). laid (a .used ∷ a .key ∷ x ∷ q ∷ n ∷ []) out) has
               ∙ ap (λ (x : ℕ). laid (a .used ∷ a .key ∷ hasPoint (a .point) ∷ x ∷ n ∷ []) out) point
               ∙ ap (λ (x : ℕ). laid (a .used ∷ a .key ∷ hasPoint (a .point) ∷ pointNumber (a .point) ∷ x ∷ []) out) state
-              ∙ ap (λ (o : Outcome). laid (answerNumbers o) out) is,
+              ∙ ap (λ (o : Outcome). laid (answerNumbers o) out) (is h),
         ),
       ),
     )

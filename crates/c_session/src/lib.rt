@@ -1,9 +1,7 @@
 // The session and the file check for C. A session is kept as 40 bytes in a slice that the caller lends.
 use base_numbers::lay_five;
-use session::Answer;
 use session::FileCheck;
 use session::Point;
-use session::Session;
 use session::open;
 use session::refuse;
 use session::tick;
@@ -17,7 +15,7 @@ ghost use lib.ListN.{length};
 ghost use lib.Dec.{eqb};
 ghost use Rattle.base_laws.specs.Base.{pick};
 ghost use Rattle.session.specs.Step as st;
-ghost use Rattle.session.specs.Step.{outcome};
+ghost use Rattle.session_turn.specs.declared.State.the-variants.{Closed};
 ghost use Rattle.session_bytes.specs.Saved.{sessionOf, kept};
 ghost use Rattle.c_session.specs.Session.{hasPoint, pointNumber, messageAnswer, messageSlice, messageArea, messageOut, tickNumber, fileNumber};
 
@@ -51,14 +49,11 @@ fn point_number(p: Point) -> u64
     }
 }
 
-// One message where its answer has room; else it is refused, and not looked at.
-fn message_in(se: Session, s: &[u8], area: &mut [u8], used: usize, room: bool) -> Answer
-    ensures { λ r. ⌜ outcome r (now (area .exit)) ≡ pick room (st.step se (now (area .entry)) used (now (s .entry))) (st.refuse se (now (area .entry)) used 12 0) ⌝ }
+// A message whose answer has no room closes its session.
+fn close(slice: &mut [u8])
+    ensures { λ r. ⌜ now (slice .exit) ≡ kept (st.inState (sessionOf (now (slice .entry))) Closed) (now (slice .entry)) ⌝ }
 {
-    if room {
-        return message(se, s, area, used);
-    }
-    refuse(se, used, 12, 0)
+    save(slice, refuse(load(slice), 0, 12, 0).session);
 }
 
 // One message in the session that the slice keeps.
@@ -75,7 +70,11 @@ pub extern "C" fn sudolog_session_message(
     ensures area { λ r. ⌜ now (area .exit) ≡ messageArea (now (slice .entry)) (now (s .entry)) (now (area .entry)) used (now (out .entry)) ⌝ }
     ensures out { λ r. ⌜ now (out .exit) ≡ messageOut (now (slice .entry)) (now (s .entry)) (now (area .entry)) used (now (out .entry)) ⌝ }
 {
-    let a = message_in(load(slice), s, area, used, 40 <= out.len());
+    if out.len() < 40 {
+        close(slice);
+        return 12;
+    }
+    let a = message(load(slice), s, area, used);
     let session = a.session;
     let point = a.point;
     let state = session.state;

@@ -2,6 +2,7 @@
 -- logging.
 use mathlib.Core.Path.{_≡_}
 use mathlib.Core.List.{List, [], _∷_, _++_}
+use mathlib.Core.Option.{none, some}
 use lib.ListN.{replicate}
 use Rattle.session_turn.specs.declared.State.the-variants.{Logging}
 use Rattle.claim_agreement.specs.Calls.{Call, message, break, afterAll, begin}
@@ -18,3 +19,6 @@ resumed = seven ++ (break ∷ message (restart 1) ∷ [])
 pub record Logged : Type 0 where
   pub after-seven : afterAll (begin (replicate 160 0) 0) seven .session .state ≡ Logging
   pub after-restart : afterAll (begin (replicate 160 0) 0) resumed .session .state ≡ Logging
+  -- a restart point holds then, until a record with a positive delay is stored
+  pub reached-again : afterAll (begin (replicate 160 0) 0) resumed .restartPoint ≡ some 1000000000
+  pub passed-again : afterAll (begin (replicate 160 0) 0) (resumed ++ (message (ttyout 2) ∷ [])) .restartPoint ≡ none

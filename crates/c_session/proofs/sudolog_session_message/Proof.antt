@@ -1,12 +1,18 @@
--- Load, the message where its answer has room, save and the five numbers are Messages.answered.
-use Rattle.c_session.proofs.Messages.{answered}
-use mathlib.Core.Path.{refl}
+-- A buffer that is too short is Messages.no-room; otherwise load, message, save and the five numbers are Messages.answered.
+use Rattle.c_session.proofs.Messages.{no-room, answered}
 use borrow.Author.Needs.{needs}
 use Rattle.c_session.proofs.sudolog_session_message.Statement.{statement}
 use Rattle.c_session.proofs.sudolog_session_message.Tie as tie
 
 returns : tie.Need-returns
 returns c =
+    let at-close = c .before .before in
+    let at-if1 = at-close .before .before in
+    let a = at-if1 .before .before .before .before .before .args in
+    no-room (a .slice .now) (a .s .now) (a .area .now) (a .used) (a .out .now) (at-if1 .if1 .taken) _ (at-close .close .ensures)
+
+returns-2 : tie.Need-returns-2
+returns-2 c =
     let at-lay-five = c .before .before in
     let at-state-number = at-lay-five .before in
     let at-point-number = at-state-number .before in
@@ -14,9 +20,10 @@ returns c =
     let at-save = at-has-point .before .before .before .before .before in
     let at-message = at-save .before .before .before .before .before in
     let at-load = at-message .before .before in
-    let a = at-load .before .before .before .before .before .before .args in
-    answered (a .slice .now) (a .s .now) (a .area .now) (a .used) (a .out .now) _ _ _ _ _ _ (at-load .load .ensures) refl
-    (at-message .message-in .ensures) _ _ _ (at-save .save .ensures .1) (at-has-point .has-point .ensures)
+    let at-if1 = at-load .before .before in
+    let a = at-if1 .before .before .before .before .before .args in
+    answered (a .slice .now) (a .s .now) (a .area .now) (a .used) (a .out .now) _ _ _ _ _ (at-load .load .ensures)
+    (at-message .message .ensures) (at-if1 .if1 .left) _ _ _ (at-save .save .ensures .1) (at-has-point .has-point .ensures)
     (at-point-number .point-number .ensures) (at-state-number .state-number .ensures) (at-lay-five .lay-five .ensures .1)
 
 pub sudolog-session-message-spec : {M : Type 1} → statement M
@@ -24,6 +31,9 @@ sudolog-session-message-spec =
     tie.close
     (tie.spec
     (λ c κs. search needs)
+    (λ c. search needs)
+    returns
+    (λ c κs. search needs)
     (λ c κs. search needs)
     (λ c κs. search needs)
     (λ c. search needs)
@@ -34,4 +44,4 @@ sudolog-session-message-spec =
     (λ c. search needs)
     (λ c. search needs)
     (λ c. search needs)
-    returns)
+    returns-2)
