@@ -3,7 +3,7 @@ use Prim.Native.Nat.{ℕ, suc, _+_, _≤_, _<_}
 use native.Mathlib.Omega.{arith}
 use mathlib.Core.Path.{_≡_, refl, ap, sym, _∙_}
 use mathlib.Core.Logic.{_⊎_, inl, inr}
-use mathlib.Core.Bool.{Bool, true, false, not}
+use mathlib.Core.Bool.{Bool, true, false}
 use mathlib.Core.Option.{Option, none, some}
 use mathlib.Core.List.{List, [], _∷_, _++_, append-assoc, append-nil, head-eq-of-cons-eq, tail-eq-of-cons-eq}
 use lib.Dec.{eqb}
@@ -29,7 +29,7 @@ use Rattle.claim_values.specs.Values.{TimedRecord, io, window, suspend, storedF
 use Rattle.claim_values.proofs.Stored.{StorableTimed, time-is}
 use Rattle.claim_delivery.specs.Recording.{Recording, records, time, totalOf, acceptOf}
 use Rattle.claim_delivery.specs.Sender.{Sent, hello, accept, restart, timed, exit, rest, Reads, Says, Lines}
-use Rattle.claim_delivery.specs.Host.{countedMember, counted, booked, WholeRestart, carries, notedMember, noted, Answer, toTick, toMessage, isPoint, answered, Desk, restartNote, deskAfter, hand, handAll}
+use Rattle.claim_delivery.specs.Host.{countedMember, counted, booked, WholeRestart, carries, notedMember, noted, Answer, toTick, toMessage, isPoint, unsent, answered, Desk, restartNote, deskAfter, hand, handAll}
 use Rattle.claim_delivery.specs.World.{stoppedAfter}
 use Rattle.claim_delivery.proofs.Totals.{kept, later, kept-later, atMost-is, kept-beginning, kept-exact, HeadLater, later-head}
 use Rattle.claim_delivery.proofs.Files.{Storable, total-of-append, begun, first, size, Count, nothing, some-of, whole, count, beginning-short, begun-unfinished, read-begun, whole-finished, read-whole, carries-is}
@@ -97,7 +97,7 @@ answer-more R n m h l (toMessage k p) g = record { is-total = g .is-total; is-wh
 -- what goes under way for a message
 answers : (P : Answer → Type 0) (every : Bool) (k : ℕ) (p : Point) → P (toMessage k p) → All P (answered every k p)
 unfolding answered
-answers P every k p h = go (both (not every) (both (eqb k 0) (not (isPoint p))))
+answers P every k p h = go (unsent every k p)
   where
     go : (b : Bool) → All P (pick b [] (toMessage k p ∷ []))
     go true = tt
@@ -134,12 +134,12 @@ told-last b (a ∷ xs) k p h = told-last (stoppedAfter b a) xs k p h
 
 -- at an exit's point, at the refusal "finished"
 told-point : (b every : Bool) (xs : List Answer) (T : ℕ) → told b (xs ++ answered every 0 (point.At T)) ≡ true
-unfolding answered isPoint
+unfolding answered unsent isPoint
 told-point b true xs T = told-last b xs 0 (point.At T) (λ x. refl)
 told-point b false xs T = told-last b xs 0 (point.At T) (λ x. refl)
 
 told-finished : (b every : Bool) (xs : List Answer) → told b (xs ++ answered every 13 point.Absent) ≡ true
-unfolding answered isPoint
+unfolding answered unsent isPoint
 told-finished b true xs = told-last b xs 13 point.Absent (λ x. refl)
 told-finished b false xs = told-last b xs 13 point.Absent (λ x. refl)
 
@@ -322,7 +322,7 @@ module _ (R : Recording) (storable : Storable R) (c : ℕ) (fits : length (fileB
         → step (d .session) (d .area) (d .used) s ≡ carrying pt se (stored (d .session) (d .area) (d .used) r)
         → MessageOk R (suc (d .n)) 0 pt
         → ((e : Desk) → e .session ≡ se → e .used ≡ d .used + length (recordBytes r) → e .n ≡ suc (d .n) → e .out ≡ d .out ++ answered (d .every) 0 pt
-            → Stage R p stop ms e)
+        → Stage R p stop ms e)
         → To
     unfolding after
     stored-to m r se pt read x counts quiet ends gives ok st =

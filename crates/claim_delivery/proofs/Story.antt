@@ -34,7 +34,7 @@ unfolding v.timedMember d.rest d.messages h.frame h.frames
 sending = tt
 
 hosting : Unit {0}
-unfolding lengthOf cutOf h.drainCut h.drain h.countedMember h.counted h.booked h.carries h.notedMember h.noted h.isPoint h.answered h.hand h.handAll
+unfolding lengthOf cutOf h.drainCut h.drain h.countedMember h.counted h.booked h.carries h.notedMember h.noted h.isPoint h.unsent h.answered h.hand h.handAll
 hosting = tt
 
 happening : Unit {0}

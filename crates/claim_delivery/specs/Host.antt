@@ -107,10 +107,13 @@ unfoldable pub isPoint : Point → Bool
 isPoint point.Absent = false
 isPoint (point.At t) = true
 
--- what goes under way for a message. Document 01 leaves open whether an answer without a point and without a refusal does: with `every` it
+-- what goes under way for a message. Document 01 leaves open whether an answer without a refusal and without a point does: with `every` it
 -- does, else it does not
+unfoldable pub unsent : Bool → ℕ → Point → Bool
+unsent every k p = both (not every) (both (eqb k 0) (not (isPoint p)))
+
 unfoldable pub answered : Bool → ℕ → Point → List Answer
-answered every k p = pick (both (not every) (both (eqb k 0) (not (isPoint p)))) [] (toMessage k p ∷ [])
+answered every k p = pick (unsent every k p) [] (toMessage k p ∷ [])
 
 -- a connection at the host: its session, the lent area with its used length and its n; the log; the answers under way, and whether they are
 -- every answer
