@@ -764,7 +764,7 @@ static inline int sudolog_next_entry(struct sudolog_entry_list *left, struct sud
     struct sudolog_span part;
     if (!sudolog_next_part(&left->parts, &part))
         return 0;
-    sudolog_get_entry(left->parts.m + part.offset, part.length, out);
+    sudolog_get_entry(sudolog_lend(left->parts.m) + part.offset, part.length, out);
     out->key.offset += part.offset;
     out->value.offset += part.offset;
     return 1;

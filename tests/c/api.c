@@ -6,6 +6,7 @@
  * reader, lists, NULL in the place of a slice, refusals and what they leave untouched; then the same of writing.
  */
 #include "check.h"
+#include "data.h"
 #include "sudolog.h"
 
 #include <stdlib.h>
@@ -1074,13 +1075,20 @@ static void ends_of_strings(void)
     REFUSES(7, sudolog_write_entry_strings(2, TEXT("k"), TEXT("ab"), NO_ENDS, 0, WIDE));
 }
 
+/* What stands in the room's place is as it was, and all beside it. */
+#define WITHOUT_ROOM(ANSWER, WRITE)                                                                         \
+    do {                                                                                                    \
+        uint64_t written;                                                                                   \
+        DATA_STAYS(written = WRITE);                                                                        \
+        CHECK(written == (ANSWER) && *sudolog_lend_room(NULL) == 0);                                        \
+    } while (0)
+
 static void null_room(size_t n)
 {
-    CHECK(sudolog_write_number_list(NO_NUMBERS, 0, SUDOLOG_LEND_ROOM(NULL, n)) == 0);
-    CHECK(sudolog_write_client_hello(0, NONE, 0, SUDOLOG_LEND_ROOM(NULL, n)) == 0);
-    CHECK(sudolog_write_time(2, 0, 0, 0, SUDOLOG_LEND_ROOM(NULL, n)) == UINT64_C(12) << 32);
-    CHECK(sudolog_write_io(7, 0, 0, TEXT("hi"), 1, SUDOLOG_LEND_ROOM(NULL, n)) == UINT64_C(12) << 32);
-    CHECK(*sudolog_lend_room(NULL) == 0); /* what stands in its place is as it was */
+    WITHOUT_ROOM(0, sudolog_write_number_list(NO_NUMBERS, 0, SUDOLOG_LEND_ROOM(NULL, n)));
+    WITHOUT_ROOM(0, sudolog_write_client_hello(0, NONE, 0, SUDOLOG_LEND_ROOM(NULL, n)));
+    WITHOUT_ROOM(UINT64_C(12) << 32, sudolog_write_time(2, 0, 0, 0, SUDOLOG_LEND_ROOM(NULL, n)));
+    WITHOUT_ROOM(UINT64_C(12) << 32, sudolog_write_io(7, 0, 0, TEXT("hi"), 1, SUDOLOG_LEND_ROOM(NULL, n)));
 }
 
 /* Each slice of each writer. */

@@ -8,6 +8,7 @@
  */
 #define _DEFAULT_SOURCE
 #include "check.h"
+#include "data.h"
 #include "sudolog.h"
 
 #include <stdlib.h>
@@ -320,10 +321,11 @@ static void test_null_message(size_t n)
     CHECK(refusal_of(h, NULL, n, h.used) == 6);
 }
 
-/* What the host's message gives over a NULL area. What stands in the area's place stays as it was. */
+/* What the host's message gives over a NULL area. What stands in the area's place stays as it was, and all beside it. */
 static int over_null(struct host h, size_t area_n, size_t used)
 {
-    int refusal = sudolog_take_message(&h.session, h.message, h.n, NULL, area_n, used, &h.answer);
+    int refusal;
+    DATA_STAYS(refusal = sudolog_take_message(&h.session, h.message, h.n, NULL, area_n, used, &h.answer));
     CHECK(h.answer.used == used && *sudolog_lend_room(NULL) == 0);
     CHECK(refusal == 0 || h.answer.state == SUDOLOG_STATE_CLOSED);
     return refusal;
