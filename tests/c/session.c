@@ -297,6 +297,31 @@ static int refusal_of(struct host h, const uint8_t *message, size_t n, size_t us
     return refusal;
 }
 
+/* Duty 3 of docs/HOST.md: a copy of the session, over an area of length 0, gives 12 for an accept that has to be stored and would be
+ * taken, and for every other accept what the session gives. */
+static void test_asked_first(struct host h, int asked, int gives)
+{
+    struct sudolog_session copy = h.session;
+    struct sudolog_answer answer;
+    CHECK(sudolog_take_message(&copy, h.message, h.n, NULL, 0, 0, &answer) == asked && answer.used == 0);
+    CHECK(hand_over(&h) == gives);
+}
+
+static void test_asked(void)
+{
+    struct host h = opened();
+    make_accept(&h, true);
+    test_asked_first(h, 12, 0);
+    make_accept(&h, false);
+    test_asked_first(h, 0, 0);
+    made(&h, sudolog_write_accept(SUDOLOG_FROM_CLIENT_ACCEPT, 1, 0, SUDOLOG_LEND(NULL, 0), 1, 0, h.message,
+                                  sizeof h.message));
+    test_asked_first(h, 8, 8);
+    h = four_records();
+    make_accept(&h, true);
+    test_asked_first(h, 9, 9);
+}
+
 /* A message with a value out of range is 7; where its lengths are wrong too, 15, which goes right after 9. No writer
  * writes these messages. */
 static void test_lengths_before_ranges(void)
@@ -550,6 +575,7 @@ int main(void)
     test_lengths();
     test_rooms();
     test_refusals();
+    test_asked();
     test_turns_of_io();
     test_lengths_before_ranges();
     test_restart_point_before_room();
