@@ -226,9 +226,9 @@ uint8_t sudolog_session_open(uint8_t *session, size_t session_n);
  * session and leaves the area as it was. In `out` five numbers of 8 bytes, most significant byte first: the used
  * length afterwards; the key that refusal 8 names (0 command, 1 runuser, 2 submithost, 3 submituser), otherwise
  * 0; whether the answer has a commit point, 1 or 0; the point in nanoseconds, otherwise 0; the state that the
- * session is in. Where `room` is below 40 the answer is 12 before the message is looked at, the session is closed,
- * and `out` stays as it was. A record that is stored costs time in its own length; a restart one pass over the
- * file's record headers. */
+ * session is in. Where `room` is below 40 the answer is 12 before the message is looked at: the session is closed,
+ * and area, used length and `out` stay as they were; a slice of another length than 40 stays as well. A record that
+ * is stored costs time in its own length; a restart one pass over the file's record headers. */
 uint8_t sudolog_session_message(uint8_t *session, size_t session_n, const uint8_t *message, size_t n,
                                 uint8_t *area, size_t area_n, size_t used, uint8_t *out, size_t room);
 
@@ -764,7 +764,7 @@ static inline int sudolog_next_entry(struct sudolog_entry_list *left, struct sud
     struct sudolog_span part;
     if (!sudolog_next_part(&left->parts, &part))
         return 0;
-    sudolog_get_entry(left->parts.m + part.offset, part.length, out);
+    sudolog_get_entry(sudolog_lend(left->parts.m) + part.offset, part.length, out);
     out->key.offset += part.offset;
     out->value.offset += part.offset;
     return 1;

@@ -2,12 +2,15 @@
  * api.c: include/sudolog.h as a C program uses it. Prints a line for each check that fails and at the end
  * 'N passed, M failed'; exit status 1 on a failure.
  *
- * In the order of the header's parts: frames, the marked examples of the scope document, each message's
- * reader, lists, NULL in the place of a slice, refusals and what they leave untouched; then the same of writing.
+ * In the order of the header's parts: names and limits, frames, the marked examples of the scope document, each
+ * message's reader, lists, NULL in the place of a slice, refusals and what they leave untouched; then the same of
+ * writing.
  */
 #include "check.h"
+#include "data.h"
 #include "sudolog.h"
 
+#include <limits.h>
 #include <stdlib.h>
 #include <string.h>
 
@@ -70,9 +73,59 @@ static bool is_time(struct sudolog_time moment, int64_t seconds, int32_t nanosec
 /* What is given with NULL as its length. */
 static const size_t lengths[] = { 0, 1, 2, 4, 4096, SIZE_MAX };
 
+/* ---- names and limits ---- */
+
+static void version(void)
+{
+    CHECK(sudolog_version() == SUDOLOG_VERSION);
+}
+
+/* Document 01's table, row by row. */
+static void refusals_have_names(void)
+{
+    static const int rows[] = { SUDOLOG_TAKEN,         SUDOLOG_TOO_LONG,        SUDOLOG_BAD_VARINT,
+                                SUDOLOG_PAST_END,      SUDOLOG_BAD_TAG,         SUDOLOG_OTHER_WIRE_TYPE,
+                                SUDOLOG_NO_MEMBER,     SUDOLOG_OUT_OF_RANGE,    SUDOLOG_ENTRY_MISSING,
+                                SUDOLOG_NOT_ITS_TURN,  SUDOLOG_TOTAL_TOO_GREAT, SUDOLOG_ZERO_AT_RESTART,
+                                SUDOLOG_NO_ROOM,       SUDOLOG_FINISHED_FILE,   SUDOLOG_NO_SUCH_POINT,
+                                SUDOLOG_NO_VALID_FILE };
+    int k;
+    CHECK(sizeof rows / sizeof rows[0] == 16);
+    for (k = 0; k < 16; k++)
+        CHECK(rows[k] == k);
+}
+
+/* Words of its own for 0 to 15, and the same for every number that is none. docs/FORMAT.md has them: tests/pages. */
+static void refusals_have_words(void)
+{
+    static const int others[] = { INT_MIN, -16, -1, 17, 255, 256, 65536, INT_MAX };
+    const char *none = sudolog_refusal_text(16);
+    size_t i;
+    int k, j;
+    CHECK(none != NULL && none[0] != '\0');
+    for (k = 0; k < 16; k++) {
+        const char *words = sudolog_refusal_text(k);
+        CHECK(words != NULL && words[0] != '\0' && strcmp(words, none) != 0);
+        for (j = 0; j < k; j++)
+            CHECK(strcmp(words, sudolog_refusal_text(j)) != 0);
+    }
+    for (i = 0; i < sizeof others / sizeof others[0]; i++)
+        CHECK(strcmp(sudolog_refusal_text(others[i]), none) == 0);
+    CHECK(strcmp(sudolog_refusal_text(0), "no refusal") == 0);
+    CHECK(strcmp(sudolog_refusal_text(SUDOLOG_NOT_ITS_TURN), "not this state's turn") == 0);
+}
+
+/* The numbers; that they are the library's is seen where each is used: below, and in session.c. */
+static void limits_have_names(void)
+{
+    CHECK(SUDOLOG_MESSAGE_MAX == 2097152 && SUDOLOG_FRAME_MAX == 2097156 && SUDOLOG_AREA_MAX == 1073741824);
+    CHECK(SUDOLOG_SESSION_SIZE == 40 && SUDOLOG_ANSWER_SIZE == 40 && SUDOLOG_RECORD_EXTRA == 13);
+    CHECK(sizeof(struct sudolog_session) == SUDOLOG_SESSION_SIZE);
+}
+
 /* ---- frames ---- */
 
-#define LARGEST 2097152
+#define LARGEST SUDOLOG_MESSAGE_MAX
 
 static bool cuts(const uint8_t *s, size_t n, enum sudolog_frame state, size_t count)
 {
@@ -97,7 +150,7 @@ static void short_frames(void)
 
 static void longest_frames(void)
 {
-    uint8_t *s = (uint8_t *)calloc(1, 4 + LARGEST + 2);
+    uint8_t *s = (uint8_t *)calloc(1, SUDOLOG_FRAME_MAX + 2);
     CHECK(s != NULL);
     if (s == NULL)
         return;
@@ -105,8 +158,8 @@ static void longest_frames(void)
     CHECK(cuts(s, 3, SUDOLOG_FRAME_WAIT, 1));
     CHECK(cuts(s, 4, SUDOLOG_FRAME_WAIT, LARGEST));
     CHECK(cuts(s, 4 + LARGEST - 1, SUDOLOG_FRAME_WAIT, 1));
-    CHECK(cuts(s, 4 + LARGEST, SUDOLOG_FRAME_WHOLE, LARGEST));
-    CHECK(cuts(s, 4 + LARGEST + 1, SUDOLOG_FRAME_WHOLE, LARGEST));
+    CHECK(cuts(s, SUDOLOG_FRAME_MAX, SUDOLOG_FRAME_WHOLE, LARGEST));
+    CHECK(cuts(s, SUDOLOG_FRAME_MAX + 1, SUDOLOG_FRAME_WHOLE, LARGEST));
     memcpy(s, "\x00\x20\x00\x01", 4);
     CHECK(cuts(s, 3, SUDOLOG_FRAME_WAIT, 1));
     CHECK(cuts(s, 4, SUDOLOG_FRAME_REFUSED, 0));
@@ -759,14 +812,14 @@ static void room_too_small(void)
     uint8_t out[40], before[40];
     memset(out, 0xA5, sizeof out);
     memset(before, 0xA5, sizeof before);
-    CHECK(sudolog_client(client.m, client.n, out, 39) == 12);
+    CHECK(sudolog_client(client.m, client.n, out, SUDOLOG_ANSWER_SIZE - 1) == 12);
     CHECK(sudolog_client(client.m, client.n, out, 0) == 12);
     CHECK(sudolog_next_number(numbers.m, numbers.n, 0, 0, out, 23) == 12);
     CHECK(sudolog_next_number(numbers.m, numbers.n, 2, 0, out, 24) == 0);
     CHECK(memcmp(out, before, sizeof out) == 0);
     CHECK(sudolog_next_number(numbers.m, numbers.n, 0, 0, out, 24) == 1);
     CHECK(memcmp(out + 24, before + 24, sizeof out - 24) == 0);
-    CHECK(sudolog_client(client.m, client.n, out, 40) == 0);
+    CHECK(sudolog_client(client.m, client.n, out, SUDOLOG_ANSWER_SIZE) == 0);
     CHECK(sudolog_big_endian(out) == SUDOLOG_FROM_CLIENT_TTYOUT);
 }
 
@@ -1074,13 +1127,20 @@ static void ends_of_strings(void)
     REFUSES(7, sudolog_write_entry_strings(2, TEXT("k"), TEXT("ab"), NO_ENDS, 0, WIDE));
 }
 
+/* What stands in the room's place is as it was, and all beside it. */
+#define WITHOUT_ROOM(ANSWER, WRITE)                                                                         \
+    do {                                                                                                    \
+        uint64_t written;                                                                                   \
+        DATA_STAYS(written = WRITE);                                                                        \
+        CHECK(written == (ANSWER) && *sudolog_lend_room(NULL) == 0);                                        \
+    } while (0)
+
 static void null_room(size_t n)
 {
-    CHECK(sudolog_write_number_list(NO_NUMBERS, 0, SUDOLOG_LEND_ROOM(NULL, n)) == 0);
-    CHECK(sudolog_write_client_hello(0, NONE, 0, SUDOLOG_LEND_ROOM(NULL, n)) == 0);
-    CHECK(sudolog_write_time(2, 0, 0, 0, SUDOLOG_LEND_ROOM(NULL, n)) == UINT64_C(12) << 32);
-    CHECK(sudolog_write_io(7, 0, 0, TEXT("hi"), 1, SUDOLOG_LEND_ROOM(NULL, n)) == UINT64_C(12) << 32);
-    CHECK(*sudolog_lend_room(NULL) == 0); /* what stands in its place is as it was */
+    WITHOUT_ROOM(0, sudolog_write_number_list(NO_NUMBERS, 0, SUDOLOG_LEND_ROOM(NULL, n)));
+    WITHOUT_ROOM(0, sudolog_write_client_hello(0, NONE, 0, SUDOLOG_LEND_ROOM(NULL, n)));
+    WITHOUT_ROOM(UINT64_C(12) << 32, sudolog_write_time(2, 0, 0, 0, SUDOLOG_LEND_ROOM(NULL, n)));
+    WITHOUT_ROOM(UINT64_C(12) << 32, sudolog_write_io(7, 0, 0, TEXT("hi"), 1, SUDOLOG_LEND_ROOM(NULL, n)));
 }
 
 /* Each slice of each writer. */
@@ -1352,6 +1412,10 @@ static void written_accept_reads_back(void)
 
 int main(void)
 {
+    version();
+    refusals_have_names();
+    refusals_have_words();
+    limits_have_names();
     short_frames();
     longest_frames();
     example_1_time();

@@ -7,25 +7,6 @@
 #include <stdio.h>
 #include <string.h>
 
-const char *const reasons[REFUSALS] = {
-    "",
-    "frame too long",
-    "bad varint",
-    "length past the end",
-    "bad tag",
-    "wrong wire type",
-    "no member",
-    "value out of range",
-    "required entry missing",
-    "not its turn",
-    "total too great",
-    "delay zero at a restart point",
-    "no room",
-    "finished",
-    "no such resume point",
-    "no valid file",
-};
-
 void open_host(struct host *host)
 {
     size_t k;
@@ -75,7 +56,7 @@ static void send_point(struct connection *c, struct sudolog_time point)
 /* The session is closed and its file as it was: the client may come back for it on a new connection. */
 static void refuse(struct connection *c, int refusal)
 {
-    send_note(c, SUDOLOG_FROM_SERVER_ERROR, reasons[refusal]);
+    send_note(c, SUDOLOG_FROM_SERVER_ERROR, sudolog_refusal_text(refusal));
     hang_up(c);
 }
 
@@ -182,7 +163,7 @@ void receive(struct connection *c, const uint8_t *bytes, size_t n)
             c->received = 0;
             take_message(c, c->window + 4, count);
         } else if (frame == SUDOLOG_FRAME_REFUSED) {
-            refuse(c, TOO_LONG);
+            refuse(c, SUDOLOG_TOO_LONG);
         } else if (n == 0) {
             return;
         } else {

@@ -8,8 +8,8 @@
 #include "sudolog.h"
 
 enum {
-    WINDOW = 4 + 2097152, /* the largest frame */
-    AREA = 65536,         /* for one file; the library takes up to 1 GiB */
+    WINDOW = SUDOLOG_FRAME_MAX,
+    AREA = 65536, /* for one file; the library takes up to SUDOLOG_AREA_MAX */
     FILES = 16,
     ANSWERS = 65536
 };
@@ -39,11 +39,6 @@ struct connection {
     uint8_t answers[ANSWERS]; /* on their way to the client */
     size_t answered;
 };
-
-enum { TOO_LONG = 1, FINISHED = 13, REFUSALS = 16 };
-
-/* What is sent to the client, by the refusal's number. */
-extern const char *const reasons[REFUSALS];
 
 /* No file is begun. */
 void open_host(struct host *host);

@@ -4,9 +4,10 @@
  *   retry [STREAM...]
  *
  * Wherever the line breaks, and however its bytes come in pieces: the client resumes at the latest commit point that
- * it received, and its file is at the end byte for byte that of an unbroken run, so it holds every record once. Each
- * STREAM, a recorded client, is run in the same way. Prints what is stored where the customer's collector failed, a
- * line for each check that fails, and at the end 'N passed, M failed'; exit status 1 on a failure.
+ * it received, and its file is at the end byte for byte that of an unbroken run, so it holds every record once. A
+ * restart of another client that is refused does not cut its line. Each STREAM, a recorded client, is run in the same
+ * way. Prints what is stored where the customer's collector failed, a line for each check that fails, and at the end
+ * 'N passed, M failed'; exit status 1 on a failure.
  */
 #include "check.h"
 #include "host.h"
@@ -223,8 +224,9 @@ static void hear(struct client *client, const uint8_t *m, size_t n)
         client->point = nanoseconds(message.commit_point);
         client->done = client->point == r->totals[r->count - 1];
     } else if (message.member == SUDOLOG_FROM_SERVER_ERROR) {
-        client->done = message.content.length == strlen(reasons[FINISHED])
-                       && memcmp(m + message.content.offset, reasons[FINISHED], message.content.length) == 0;
+        const char *finished = sudolog_refusal_text(SUDOLOG_FINISHED_FILE);
+        client->done = message.content.length == strlen(finished)
+                       && memcmp(m + message.content.offset, finished, message.content.length) == 0;
         CHECK(client->done); /* no other refusal meets this client */
     }
 }
@@ -430,8 +432,9 @@ static bool ends_with_error(const struct connection *c, int refusal)
 {
     uint8_t note[128];
     size_t n = 0;
-    CHECK(sudolog_add_written(sudolog_write_note(SUDOLOG_FROM_SERVER_ERROR, SUDOLOG_LEND_STRING(reasons[refusal]), true,
-                                                 note, sizeof note),
+    CHECK(sudolog_add_written(sudolog_write_note(SUDOLOG_FROM_SERVER_ERROR,
+                                                 SUDOLOG_LEND_STRING(sudolog_refusal_text(refusal)), true, note,
+                                                 sizeof note),
                               &n)
           == 0);
     return c->answered >= n && memcmp(c->answers + c->answered - n, note, n) == 0;
@@ -453,7 +456,7 @@ static void test_refusals(const struct recording *r, const struct file *whole)
     size_t n = 0;
     start_over(r);
     run_line(17, NEVER);
-    CHECK(is_refused(too_long, sizeof too_long, TOO_LONG));
+    CHECK(is_refused(too_long, sizeof too_long, SUDOLOG_TOO_LONG));
     CHECK(is_refused(empty, sizeof empty, 6));
     CHECK(is_refused(r->frames + r->ends[0], r->ends[1] - r->ends[0], 9)); /* a record before the accept */
     CHECK(sudolog_add_written(sudolog_write_restart(SUDOLOG_FROM_CLIENT_RESTART, SUDOLOG_LEND_STRING("file-99"), 0, 0,
@@ -462,6 +465,91 @@ static void test_refusals(const struct recording *r, const struct file *whole)
           == 0);
     CHECK(is_refused(restart, n, 15)); /* no such file: no area is lent */
     check_files(whole);
+}
+
+/* Adds a restart of a log id to a client's bytes. */
+static void add_restart(uint8_t *bytes, size_t room, size_t *n, const char *log_id, uint64_t seconds)
+{
+    CHECK(sudolog_add_written(sudolog_write_restart(SUDOLOG_FROM_CLIENT_RESTART, SUDOLOG_LEND_STRING(log_id), seconds, 0,
+                                                    true, bytes + *n, room - *n),
+                              n)
+          == 0);
+}
+
+/* Adds a hello, or an accept without I/O: what a client may send before a restart. */
+static void add_first(uint8_t *bytes, size_t room, size_t *n, bool accepted)
+{
+    uint8_t run[256];
+    size_t run_n = 0;
+    uint64_t written;
+    if (accepted) {
+        add_entry(run, sizeof run, &run_n, "command", "/bin/true");
+        add_entry(run, sizeof run, &run_n, "runuser", "root");
+        add_entry(run, sizeof run, &run_n, "submithost", "press2");
+        add_entry(run, sizeof run, &run_n, "submituser", "bob");
+        written = sudolog_write_accept(SUDOLOG_FROM_CLIENT_ACCEPT, 1700000000, 0, run, run_n, false, true, bytes + *n,
+                                       room - *n);
+    } else {
+        written = sudolog_write_client_hello(SUDOLOG_FROM_CLIENT_HELLO, SUDOLOG_LEND_STRING("other"), true, bytes + *n,
+                                             room - *n);
+    }
+    CHECK(sudolog_add_written(written, n) == 0);
+}
+
+/* The client is in the middle of its recording, and its file has the log id that it heard. */
+static void begin_recording(const struct recording *r)
+{
+    start_over(r);
+    line_up(&client);
+    open_connection(&old_line, &host);
+    receive(&old_line, client.line, client.greeting + r->ends[1]);
+    arrive_all(&client, &old_line);
+    CHECK(old_line.open && clients_file()->user == &old_line);
+}
+
+/* Another client's bytes end in a restart of this client's file that is refused: its line stands, its file is lent to
+ * it as before, and it goes on to its exit. */
+static void check_kept_line(const struct recording *r, const struct file *whole, const uint8_t *bytes, size_t n, int refusal)
+{
+    size_t at = client.greeting + r->ends[1], used = clients_file()->used;
+    CHECK(is_refused(bytes, n, refusal));
+    CHECK(old_line.open && clients_file()->user == &old_line && clients_file()->used == used);
+    receive(&old_line, client.line + at, client.lined_up - at);
+    arrive_all(&client, &old_line);
+    check_files(whole);
+}
+
+/* A restart that is refused takes no file away from its present user: one out of turn, in a session in events only or
+ * as a session's second one, or one at a point that the file has not. */
+static void test_refused_takeover(const struct recording *r, const struct file *whole)
+{
+    uint8_t bytes[1024];
+    size_t n = 0;
+    const struct file *own;
+
+    begin_recording(r);
+    add_first(bytes, sizeof bytes, &n, true);
+    add_restart(bytes, sizeof bytes, &n, client.log_id, 0);
+    check_kept_line(r, whole, bytes, n, SUDOLOG_NOT_ITS_TURN);
+
+    begin_recording(r);
+    n = 0;
+    add_first(bytes, sizeof bytes, &n, false);
+    add_restart(bytes, sizeof bytes, &n, client.log_id, 4000000000);
+    check_kept_line(r, whole, bytes, n, SUDOLOG_NO_SUCH_POINT);
+
+    /* The other client has a file of its own: the accept of this recording, and then its line broke. */
+    begin_recording(r);
+    open_connection(&new_line, &host);
+    receive(&new_line, r->frames, r->ends[0]);
+    own = new_line.file;
+    if (own == NULL || own == clients_file())
+        give_up("the other client has no file of its own", "");
+    hang_up(&new_line);
+    n = 0;
+    add_restart(bytes, sizeof bytes, &n, own->log_id, 0);
+    add_restart(bytes, sizeof bytes, &n, client.log_id, 0);
+    check_kept_line(r, whole, bytes, n, SUDOLOG_NOT_ITS_TURN);
 }
 
 /* A file's records: the first two bytes of their data and their total. */
@@ -532,6 +620,7 @@ static void test_recording(const struct recording *r)
     test_many_breaks(r, &whole);
     test_late_bytes(r, &whole);
     test_refusals(r, &whole);
+    test_refused_takeover(r, &whole);
 }
 
 int main(int count, char **arguments)

@@ -2,12 +2,14 @@
  * session.c: a host in C that runs sessions over an area, by include/sudolog.h. Prints a line for each check that
  * fails and at the end 'N passed, M failed'; exit status 1 on a failure.
  *
- * The marked examples 7 to 10 of the scope document; the 40 bytes of a session, and bytes that are none; what a
- * refusal leaves as it was; the turns of I/O bytes; which of two refusals goes first; NULL in the place of a message
- * and of an area; that a restart and a file check touch no data bytes; and that data of every size is stored byte for byte.
+ * The marked examples 7 to 10 of the scope document; the 40 bytes of a session, and bytes that are none; an answer
+ * without room; what a refusal leaves as it was; the turns of I/O bytes; which of two refusals goes first; the limits of a
+ * message, an area and a record; NULL in the place of a message and of an area; that a restart and a file check touch no
+ * data bytes; and that data of every size is stored byte for byte.
  */
 #define _DEFAULT_SOURCE
 #include "check.h"
+#include "data.h"
 #include "sudolog.h"
 
 #include <stdlib.h>
@@ -190,18 +192,23 @@ static void test_no_sessions(void)
 /* Slices of another length than 40 hold no session, and stay as they are. An answer without room closes the session and does no more. */
 static void test_lengths(void)
 {
-    uint8_t slice[64], out[64];
+    uint8_t slice[64], opened_slice[64], out[64];
     size_t n;
     struct host h = opened();
     make_accept(&h, true);
     for (n = 0; n <= sizeof slice; n++) {
         memset(slice, 0, sizeof slice);
         memset(out, 0xEE, sizeof out);
-        CHECK(sudolog_session_open(slice, n) == (n == 40 ? 0 : 12));
+        CHECK(sudolog_session_open(slice, n) == (n == SUDOLOG_SESSION_SIZE ? 0 : 12));
+        memcpy(opened_slice, slice, sizeof slice);
         CHECK(sudolog_session_message(slice, n, h.message, h.n, h.area, AREA, 0, out, sizeof out) == (n == 40 ? 0 : 9));
         CHECK(sudolog_big_endian(out) == (n == 40 ? 11 + h.n - 2 : 0));
         CHECK(out[40] == 0xEE && out[63] == 0xEE);
         CHECK((slice[7] == SUDOLOG_STATE_LOGGING) == (n == 40));
+        CHECK((memcmp(slice, opened_slice, sizeof slice) == 0) == (n != 40));
+        memcpy(slice, opened_slice, sizeof slice);
+        CHECK(sudolog_session_message(slice, n, h.message, h.n, h.area, AREA, 0, out, SUDOLOG_ANSWER_SIZE - 1) == 12);
+        CHECK((memcmp(slice, opened_slice, sizeof slice) == 0) == (n != 40));
     }
     for (n = 0; n < 40; n++) {
         struct host before;
@@ -213,6 +220,48 @@ static void test_lengths(void)
         before.session.bytes[7] = SUDOLOG_STATE_CLOSED; /* as by every refusal */
         CHECK(memcmp(&h, &before, sizeof h) == 0 && out[0] == 0xEE);
     }
+}
+
+/* A message for a session, and an answer in this room: 12 below 40, before the message is looked at, and then 9 for every other
+ * one; otherwise what the message gives. */
+static void test_room(struct host h, const uint8_t *message, size_t n, size_t room, int refusal)
+{
+    struct host before = h;
+    uint8_t out[64];
+    int gives;
+    memset(out, 0xEE, sizeof out);
+    gives = sudolog_session_message(h.session.bytes, sizeof h.session.bytes, message, n, h.area, AREA, h.used, out, room);
+    if (room >= SUDOLOG_ANSWER_SIZE) {
+        CHECK(gives == refusal && out[0] == 0);
+        return;
+    }
+    CHECK(gives == SUDOLOG_NO_ROOM && out[0] == 0xEE && memcmp(out, out + 1, sizeof out - 1) == 0);
+    CHECK(memcmp(h.area, before.area, AREA) == 0 && sudolog_big_endian(h.session.bytes) == SUDOLOG_STATE_CLOSED);
+    CHECK(ticks(&h, -1) && ttyout(&h, 1) == SUDOLOG_NOT_ITS_TURN);
+    CHECK(h.used == before.used && memcmp(h.area, before.area, AREA) == 0);
+    h.session = before.session; /* had it not been asked, it would go on */
+    CHECK(sudolog_take_message(&h.session, message, n, h.area, AREA, h.used, &h.answer) == refusal);
+}
+
+static void test_rooms(void)
+{
+    static const size_t rooms[] = { 0, 1, 39, 40, 41 };
+    uint8_t *long_one = (uint8_t *)calloc(1, SUDOLOG_MESSAGE_MAX + 1);
+    struct host fresh = opened(), logging = four_records();
+    size_t i;
+    if (long_one == NULL)
+        exit(2);
+    make_accept(&fresh, true);
+    made(&logging, sudolog_write_io(SUDOLOG_FROM_CLIENT_TTYOUT, 1, 0, SUDOLOG_LEND_STRING("hi"), 0, logging.message,
+                                    sizeof logging.message));
+    for (i = 0; i < sizeof rooms / sizeof rooms[0]; i++) {
+        test_room(fresh, fresh.message, fresh.n, rooms[i], 0);
+        test_room(logging, logging.message, logging.n, rooms[i], 0);
+        test_room(logging, fresh.message, fresh.n, rooms[i], 9);
+        test_room(logging, fresh.message, 0, rooms[i], 6);
+        test_room(logging, long_one, SUDOLOG_MESSAGE_MAX + 1, rooms[i], 1);
+    }
+    free(long_one);
 }
 
 /* A refusal leaves every byte of the area and the used length, and closes the session. */
@@ -246,6 +295,31 @@ static int refusal_of(struct host h, const uint8_t *message, size_t n, size_t us
     CHECK(refusal == 0 || (h.answer.used == used && h.answer.state == SUDOLOG_STATE_CLOSED));
     CHECK(refusal == 0 || memcmp(h.area, before.area, AREA) == 0);
     return refusal;
+}
+
+/* Duty 3 of docs/HOST.md: a copy of the session, over an area of length 0, gives 12 for an accept that has to be stored and would be
+ * taken, and for every other accept what the session gives. */
+static void test_asked_first(struct host h, int asked, int gives)
+{
+    struct sudolog_session copy = h.session;
+    struct sudolog_answer answer;
+    CHECK(sudolog_take_message(&copy, h.message, h.n, NULL, 0, 0, &answer) == asked && answer.used == 0);
+    CHECK(hand_over(&h) == gives);
+}
+
+static void test_asked(void)
+{
+    struct host h = opened();
+    make_accept(&h, true);
+    test_asked_first(h, 12, 0);
+    make_accept(&h, false);
+    test_asked_first(h, 0, 0);
+    made(&h, sudolog_write_accept(SUDOLOG_FROM_CLIENT_ACCEPT, 1, 0, SUDOLOG_LEND(NULL, 0), 1, 0, h.message,
+                                  sizeof h.message));
+    test_asked_first(h, 8, 8);
+    h = four_records();
+    make_accept(&h, true);
+    test_asked_first(h, 9, 9);
 }
 
 /* A message with a value out of range is 7; where its lengths are wrong too, 15, which goes right after 9. No writer
@@ -320,10 +394,11 @@ static void test_null_message(size_t n)
     CHECK(refusal_of(h, NULL, n, h.used) == 6);
 }
 
-/* What the host's message gives over a NULL area. What stands in the area's place stays as it was. */
+/* What the host's message gives over a NULL area. What stands in the area's place stays as it was, and all beside it. */
 static int over_null(struct host h, size_t area_n, size_t used)
 {
-    int refusal = sudolog_take_message(&h.session, h.message, h.n, NULL, area_n, used, &h.answer);
+    int refusal;
+    DATA_STAYS(refusal = sudolog_take_message(&h.session, h.message, h.n, NULL, area_n, used, &h.answer));
     CHECK(h.answer.used == used && *sudolog_lend_room(NULL) == 0);
     CHECK(refusal == 0 || h.answer.state == SUDOLOG_STATE_CLOSED);
     return refusal;
@@ -401,6 +476,57 @@ static void test_headers_alone(void)
     free(message);
 }
 
+/* A message of the greatest length is stored, one byte more is 1; an area of the greatest length is taken, one byte more is 15. */
+static void test_limits(void)
+{
+    uint8_t *area = (uint8_t *)mmap(NULL, (size_t)SUDOLOG_AREA_MAX + 1, PROT_READ | PROT_WRITE,
+                                    MAP_PRIVATE | MAP_ANONYMOUS | MAP_NORESERVE, -1, 0);
+    uint8_t *data = (uint8_t *)calloc(1, SUDOLOG_MESSAGE_MAX), *message = (uint8_t *)malloc(SUDOLOG_MESSAGE_MAX + 1);
+    struct sudolog_session session = sudolog_new_session(), logging;
+    struct sudolog_answer answer;
+    struct host h = opened();
+    size_t used, n = SUDOLOG_MESSAGE_MAX;
+    if (area == MAP_FAILED || data == NULL || message == NULL)
+        exit(2);
+    make_accept(&h, true);
+    CHECK(sudolog_take_message(&session, h.message, h.n, area, (size_t)SUDOLOG_AREA_MAX + 1, 0, &answer) == 15);
+    session = sudolog_new_session();
+    CHECK(sudolog_take_message(&session, h.message, h.n, area, SUDOLOG_AREA_MAX, 0, &answer) == 0);
+    used = answer.used;
+    CHECK(sudolog_check_file(area, SUDOLOG_AREA_MAX, used) == SUDOLOG_FILE_UNFINISHED);
+    CHECK(sudolog_check_file(area, (size_t)SUDOLOG_AREA_MAX + 1, used) == SUDOLOG_FILE_REFUSED);
+    logging = session;
+    /* its data is ten bytes shorter: two tags, two lengths of three bytes, an empty delay */
+    CHECK(sudolog_write_io(SUDOLOG_FROM_CLIENT_TTYOUT, 0, 0, data, n - 10, 0, message, n + 1) == n);
+    message[n] = 0;
+    CHECK(sudolog_take_message(&logging, message, n + 1, area, SUDOLOG_AREA_MAX, used, &answer) == 1 && answer.used == used);
+    CHECK(sudolog_take_message(&session, message, n, area, SUDOLOG_AREA_MAX, used, &answer) == 0);
+    CHECK(answer.used == used + 11 + n - 10);
+    munmap(area, (size_t)SUDOLOG_AREA_MAX + 1);
+    free(data);
+    free(message);
+}
+
+/* By how much a record is longer than its message, which the session takes. */
+static int64_t extra(struct host h, const uint8_t *message, size_t n)
+{
+    CHECK(sudolog_take_message(&h.session, message, n, h.area, AREA, h.used, &h.answer) == 0);
+    return (int64_t)(h.answer.used - h.used) - (int64_t)n;
+}
+
+/* A record is at most 13 bytes longer: a window size of which nothing is said. */
+static void test_record_extra(void)
+{
+    static const uint8_t window[] = { 0x5A, 0 }, io[] = { 0x3A, 0 }, end[] = { 0x1A, 0 }, suspend[] = { 0x62, 3, 0x12, 1, 'x' };
+    struct host h = four_records(), fresh = opened();
+    make_accept(&fresh, true);
+    CHECK(extra(h, window, sizeof window) == SUDOLOG_RECORD_EXTRA);
+    CHECK(extra(h, io, sizeof io) == 9); /* 11 of header, and no tag and length of the member */
+    CHECK(extra(h, end, sizeof end) == 11);
+    CHECK(extra(h, suspend, sizeof suspend) == 7);
+    CHECK(extra(fresh, fresh.message, fresh.n) == 9);
+}
+
 /* Data of n bytes in an area with room for it and no more: the record's header, then every byte, and no byte behind. */
 static void test_stored(uint8_t *area, size_t size, uint8_t *message, const uint8_t *data, size_t n)
 {
@@ -447,10 +573,14 @@ int main(void)
     test_layout();
     test_no_sessions();
     test_lengths();
+    test_rooms();
     test_refusals();
+    test_asked();
     test_turns_of_io();
     test_lengths_before_ranges();
     test_restart_point_before_room();
+    test_limits();
+    test_record_extra();
     test_null();
     test_headers_alone();
     test_sizes();
