@@ -6,7 +6,7 @@ use mathlib.Core.Bool.{Bool, true, false}
 use mathlib.Core.List.{List, [], _∷_}
 use lib.ListN.{length}
 use lib.Dec.{leb}
-use borrow.Author.Tests.{le-leb, lt-leb, leb-true, leb-false}
+use borrow.Author.Tests.{le-leb, leb-true}
 use Rattle.base_laws.specs.Base.{pick, both, part, splice}
 use Rattle.base_numbers.specs.Eight.{eights, laid, numberAt}
 use Rattle.base_numbers.proofs.Back.{first-back, second-back, third-back, fourth-back, fifth-back}
@@ -15,7 +15,7 @@ use Rattle.wire_types.specs.declared.ClientRead.the-variants as client
 use Rattle.wire_walk_client.specs.Client.{clientOf}
 use Rattle.wire_message.specs.Message.{ioBuf, clientMember, serverMember}
 use Rattle.wire_message.specs.Places.{timeValue}
-use Rattle.wire.specs.Read.{Reading, value, refused, clientMessage, serverMessage}
+use Rattle.wire.specs.Read.{value, clientMessage, serverMessage}
 use Rattle.wire.specs.Places.{serverOf, clientValue, serverValue}
 use Rattle.wire.specs.declared.ServerRead.the-variants as server
 use Rattle.wire.proofs.Members.{client-means, server-means}

@@ -6,7 +6,7 @@ use Rattle.base_laws.specs.Base.{pick, part}
 use mathlib.Core.Bool.{Bool, true, false}
 use lib.Dec.{eqb}
 use Rattle.wire_types.specs.declared.Span.{Span}
-use Rattle.wire_fields.specs.Fields.{lastIn, fieldsAt, fieldsFrom, spanIn}
+use Rattle.wire_fields.specs.Fields.{lastIn, fieldsAt, fieldsFrom}
 use Rattle.wire_fields.specs.Items.{Item, items, lastItem, lastFrom, numberOf, bytesOf}
 use Rattle.wire_fields.specs.declared.Last.{Last}
 use Rattle.wire_fields.specs.declared.Last.the-variants as last
