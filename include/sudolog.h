@@ -150,6 +150,11 @@ uint8_t sudolog_next_number(const uint8_t *s, size_t n, size_t at, size_t end, u
  * members. */
 uint8_t sudolog_client(const uint8_t *s, size_t n, uint8_t *out, size_t room);
 
+/* Reads a ServerMessage: as sudolog_decode, then 12 where `room` is below 24, and on 0 three numbers of 8
+ * bytes in `out`, most significant byte first: the member's field number, and the offset and the length in s
+ * of its message or string. */
+uint8_t sudolog_server(const uint8_t *s, size_t n, uint8_t *out, size_t room);
+
 /* ---- writing ----
  *
  * Each function writes one message into `out`, from its start, in the one form that document 01 gives it, and
@@ -676,13 +681,19 @@ static inline void sudolog_get_client_message(const uint8_t *m, size_t n, struct
     out->content = sudolog_field_span(field, m, n);
 }
 
+/* The commit point where the member and its place are filled in: 0 s 0 ns of another member. */
+static inline void sudolog_get_commit_point(const uint8_t *m, struct sudolog_server_message *out)
+{
+    bool committed = out->member == SUDOLOG_FROM_SERVER_COMMIT_POINT;
+    sudolog_get_time(sudolog_lend(m) + out->content.offset, committed ? out->content.length : 0, &out->commit_point);
+}
+
 static inline void sudolog_get_server_message(const uint8_t *m, size_t n, struct sudolog_server_message *out)
 {
     uint64_t field = sudolog_member(SUDOLOG_SERVER_MESSAGE, SUDOLOG_LEND(m, n));
-    bool committed = field == SUDOLOG_FROM_SERVER_COMMIT_POINT;
     out->member = (int)field;
     out->content = sudolog_field_span(field, m, n);
-    sudolog_get_time(sudolog_lend(m) + out->content.offset, committed ? out->content.length : 0, &out->commit_point);
+    sudolog_get_commit_point(m, out);
 }
 
 /* ---- reading: sudolog_decode_NAME and sudolog_read_NAME of every message ---- */
@@ -704,7 +715,6 @@ static inline void sudolog_get_server_message(const uint8_t *m, size_t n, struct
     }
 
 SUDOLOG_READERS(client_message, SUDOLOG_CLIENT_MESSAGE)
-SUDOLOG_READERS(server_message, SUDOLOG_SERVER_MESSAGE)
 SUDOLOG_READERS(accept, SUDOLOG_ACCEPT_MESSAGE)
 SUDOLOG_READERS(reject, SUDOLOG_REJECT_MESSAGE)
 SUDOLOG_READERS(exit, SUDOLOG_EXIT_MESSAGE)
@@ -721,6 +731,26 @@ SUDOLOG_READERS(number_list, SUDOLOG_NUMBER_LIST)
 SUDOLOG_READERS(time, SUDOLOG_TIME_SPEC)
 
 #undef SUDOLOG_READERS
+
+/* The readers of a ServerMessage, by sudolog_server. */
+static inline int sudolog_decode_server_message(const uint8_t *m, size_t n, struct sudolog_server_message *out)
+{
+    uint8_t numbers[24];
+    int refusal = sudolog_server(SUDOLOG_LEND(m, n), numbers, sizeof numbers);
+    if (refusal != 0)
+        return refusal;
+    out->member = (int)sudolog_big_endian(numbers);
+    out->content.offset = (size_t)sudolog_big_endian(numbers + 8);
+    out->content.length = (size_t)sudolog_big_endian(numbers + 16);
+    sudolog_get_commit_point(m, out);
+    return 0;
+}
+
+static inline int sudolog_read_server_message(const uint8_t *m, size_t n, struct sudolog_server_message *out)
+{
+    int refusal = sudolog_read(SUDOLOG_SERVER_MESSAGE, SUDOLOG_LEND(m, n));
+    return refusal != 0 ? refusal : sudolog_decode_server_message(m, n, out);
+}
 
 /* A ClientMessage in one walk over its bytes, for a collector's main loop: 0 and out filled, or refusal 2
  * to 6 and out untouched, as sudolog_decode_client_message. Ranges are not looked at: a delay may be

@@ -823,6 +823,52 @@ static void room_too_small(void)
     CHECK(sudolog_big_endian(out) == SUDOLOG_FROM_CLIENT_TTYOUT);
 }
 
+/* The three numbers of sudolog_server: each member, one after a log_id that it overwrites; its refusals leave `out`. */
+static void server_numbers(void)
+{
+    static const struct {
+        const char *text;
+        size_t n;
+        int refusal;
+    } refused[] = {
+        { "\x12\x01\x08", 3, 2 },     /* a commit point that ends in its varint */
+        { "\x1A\x03id", 4, 3 },       /* a log_id past the end */
+        { "\x12\x00\x00", 3, 4 },     /* a tag of field 0 */
+        { "\x13", 1, 4 },             /* a known field of an unknown wire type */
+        { "\x10\x05", 2, 5 },         /* a commit point that is a number */
+        { "", 0, 6 },
+        { "\x6A\x00", 2, 6 },         /* a ClientMessage's hello is none of its members */
+        { "\x12\x01\x08\x1A\x00", 5, 2 } /* broken, and overwritten */
+    };
+    uint8_t m[8] = { 0x1A, 0x02, 'i', 'd', 0, 0x02, 0x08, 0x05 };
+    uint8_t out[25], before[25];
+    uint64_t member;
+    size_t i;
+    memset(before, 0xA5, sizeof before);
+    for (member = 1; member <= 5; member++) {
+        m[4] = (uint8_t)(member << 3 | 2);
+        m[6] = member == SUDOLOG_FROM_SERVER_HELLO ? 0x20 : 0x08; /* subcommands, or seconds */
+        memcpy(out, before, sizeof out);
+        CHECK(sudolog_server(m, sizeof m, out, 23) == 12 && sudolog_server(m, sizeof m, out, 0) == 12);
+        CHECK(memcmp(out, before, sizeof out) == 0);
+        CHECK(sudolog_server(m, sizeof m, out, 24) == 0 && out[24] == 0xA5);
+        CHECK(sudolog_big_endian(out) == member && sudolog_big_endian(out + 8) == 6 && sudolog_big_endian(out + 16) == 2);
+        CHECK(sudolog_server(m, sizeof m, out, 25) == 0 && out[24] == 0xA5);
+        CHECK(sudolog_server(m, 4, out, 24) == 0 && sudolog_big_endian(out) == 3 && sudolog_big_endian(out + 8) == 2);
+    }
+    memcpy(out, before, sizeof out);
+    for (i = 0; i < sizeof refused / sizeof refused[0]; i++) {
+        struct slice in = slice_of(refused[i].text, refused[i].n);
+        CHECK(sudolog_server(in.m, in.n, out, 24) == refused[i].refusal);
+        CHECK(sudolog_server(in.m, in.n, out, 0) == refused[i].refusal);
+        CHECK(sudolog_decode(SUDOLOG_SERVER_MESSAGE, in.m, in.n) == refused[i].refusal);
+    }
+    CHECK(sudolog_server(SUDOLOG_LEND(NULL, 0), out, 24) == 6);
+    CHECK(sudolog_server(SUDOLOG_LEND(NULL, 0), SUDOLOG_LEND_ROOM(NULL, 0)) == 6);
+    CHECK(sudolog_server(m, sizeof m, SUDOLOG_LEND_ROOM(NULL, 0)) == 12);
+    CHECK(memcmp(out, before, sizeof out) == 0);
+}
+
 static void fields_that_are_absent(void)
 {
     struct slice in = BYTES("\x08\x05\x12\x01x");
@@ -1450,6 +1496,7 @@ int main(void)
     ranges_of_the_rest();
     ranges_of_lengths();
     room_too_small();
+    server_numbers();
     fields_that_are_absent();
     numbers_from_bytes();
     answers_taken_apart();

@@ -128,6 +128,14 @@ uint8_t sudolog_client(const uint8_t *s, size_t n, uint8_t *out, size_t room)
     return look(s, n);
 }
 
+/* A commit point, so that its values are asked for. */
+uint8_t sudolog_server(const uint8_t *s, size_t n, uint8_t *out, size_t room)
+{
+    memset(out, 0, room);
+    out[7] = SUDOLOG_FROM_SERVER_COMMIT_POINT;
+    return look(s, n);
+}
+
 uint8_t sudolog_session_message(uint8_t *session, size_t session_n, const uint8_t *message, size_t n, uint8_t *area,
                                 size_t area_n, size_t used, uint8_t *out, size_t room)
 {

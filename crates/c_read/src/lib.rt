@@ -2,9 +2,12 @@
 // A `&[u8]` comes as a pointer and a length; a `&mut [u8]` is the buffer that the caller lends for more than one number.
 
 use base_numbers::lay_five;
+use base_numbers::lay_three;
+use wire::ServerRead;
 use wire::client_message;
 use wire::decode;
 use wire::read;
+use wire::server_message;
 use wire_fields::Last;
 use wire_fields::between;
 use wire_fields::last_in;
@@ -20,8 +23,9 @@ ghost use lib.ListN.{length};
 ghost use Rattle.wire_frame.specs.Frame.{cutOf, frameState, countOf};
 ghost use Rattle.wire_fields.specs.Fields.{lastIn, memberFrom};
 ghost use Rattle.wire_walk_client.specs.Client.{clientOf};
-ghost use Rattle.wire.specs.Read.{decodeNumber, readNumber};
-ghost use Rattle.c_read.specs.Answers.{memberOf, clientAnswer, clientBuffer};
+ghost use Rattle.wire.specs.Read.{decodeNumber, readNumber, value, clientMessage, serverMessage};
+ghost use Rattle.wire.specs.Places.{serverOf};
+ghost use Rattle.c_read.specs.Answers.{memberOf, readAnswer, clientBuffer, clientTold, serverBuffer, serverTold};
 
 #[no_mangle]
 pub extern "C" fn sudolog_frame_state(s: &[u8]) -> u8
@@ -84,8 +88,9 @@ pub extern "C" fn sudolog_member(message: u8, s: &[u8]) -> u64
 
 #[no_mangle]
 pub extern "C" fn sudolog_client(s: &[u8], out: &mut [u8]) -> u8
-    ensures answer { λ r. ⌜ r ≡ clientAnswer (clientOf (now (s .entry))) (length (now (out .entry))) ⌝ }
+    ensures answer { λ r. ⌜ r ≡ readAnswer (clientMessage (now (s .entry))) 40 (length (now (out .entry))) ⌝ }
     ensures buffer { λ r. ⌜ now (out .exit) ≡ clientBuffer (clientOf (now (s .entry))) (now (out .entry)) ⌝ }
+    ensures means { λ r. ⌜ (r ≡ 0 → clientMessage (now (s .entry)) ≡ value (clientTold (now (s .entry)) (now (out .exit)))) ⌝ }
 {
     match client_message(s) {
         ClientRead::Io {
@@ -110,5 +115,24 @@ pub extern "C" fn sudolog_client(s: &[u8], out: &mut [u8]) -> u8
         }
         ClientRead::NoMember => 6,
         ClientRead::Refused { refusal, place: _ } => refusal,
+    }
+}
+
+#[no_mangle]
+pub extern "C" fn sudolog_server(s: &[u8], out: &mut [u8]) -> u8
+    ensures answer { λ r. ⌜ r ≡ readAnswer (serverMessage (now (s .entry))) 24 (length (now (out .entry))) ⌝ }
+    ensures buffer { λ r. ⌜ now (out .exit) ≡ serverBuffer (serverOf (now (s .entry))) (now (out .entry)) ⌝ }
+    ensures means { λ r. ⌜ (r ≡ 0 → serverMessage (now (s .entry)) ≡ value (serverTold (now (s .entry)) (now (out .exit)))) ⌝ }
+{
+    match server_message(s) {
+        ServerRead::Member { member, start, end } => {
+            let length = between(start, end);
+            if lay_three(out, member, start as u64, length) {
+                return 0;
+            }
+            12
+        }
+        ServerRead::NoMember => 6,
+        ServerRead::Refused { refusal, place: _ } => refusal,
     }
 }

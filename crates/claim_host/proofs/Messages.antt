@@ -8,7 +8,7 @@ use lib.ListN.{length}
 use lib.Dec.{leb, eqb}
 use borrow.Author.Tests.{eq-eqb, ne-eqb}
 use Rattle.base_laws.specs.Base.{pick}
-use Rattle.wire_frame.specs.Frame.{cutOf, frameState, countOf}
+use Rattle.wire_frame.specs.Frame.{cutOf, refusalOf, frameState, countOf}
 use Rattle.wire_frame.specs.declared.Cut.{Cut}
 use Rattle.wire_frame.specs.declared.Cut.the-variants.{Wait, Frame, Refused}
 use Rattle.wire_message.specs.Message.{Bytes}
@@ -32,7 +32,7 @@ use Rattle.claim_host.specs.Carried.{Sized}
 use Rattle.claim_host.proofs.Told.{Told, told}
 
 pub cut-back : (c : Cut) → cutFrom (frameState c) (countOf c) ≡ c
-unfolding cutFrom frameState countOf
+unfolding cutFrom refusalOf frameState countOf
 cut-back (Wait n) = refl
 cut-back (Frame n) = refl
 cut-back Refused = refl

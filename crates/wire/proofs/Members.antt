@@ -1,4 +1,4 @@
--- The answers of the one-walk reader mean what the definitions of a ClientMessage say.
+-- The answers of the readers mean what the definitions of a ClientMessage and a ServerMessage say.
 use Prim.Native.Nat.{ℕ, _+_, _-_, _≤_}
 use native.Mathlib.Omega.{arith}
 use mathlib.Core.Path.{_≡_, refl, ap, _∙_}
@@ -25,11 +25,12 @@ use Rattle.wire_walk_client.specs.Client.{memberRead, clientFrom, clientRead, c
 use Rattle.wire_walk_io.specs.declared.io.IoRead.the-variants as ioread
 use Rattle.wire_types.specs.declared.ClientRead.{ClientRead}
 use Rattle.wire_types.specs.declared.ClientRead.the-variants as client
-use Rattle.wire_message.specs.Message.{clientMember, ioBuf, timed}
+use Rattle.wire_message.specs.Message.{clientMember, serverMember, ioBuf, timed}
 use Rattle.wire_message.specs.Places.{timeValue}
 use Rattle.wire_message.proofs.Meaning.{time-means}
-use Rattle.wire.specs.Read.{value, after, member, clientMessage}
-use Rattle.wire.specs.Places.{clientValue}
+use Rattle.wire.specs.Read.{value, after, member, clientMessage, serverMessage}
+use Rattle.wire.specs.Places.{serverFrom, serverRead, serverOf, clientValue, serverValue}
+use Rattle.wire.specs.declared.ServerRead.{ServerRead}
 
 -- the members whose message is an IoBuffer are 6 to 10
 io-rule : ℕ → ℕ → Bool
@@ -90,3 +91,22 @@ unfolding clientMessage
 client-means s =
     checked-first s (checkOf 0 s) (clientFrom s (lastIn 1 13 s))
     ∙ ap (after (checkOf 0 s)) (from s (lastIn 1 13 s) (last-in-in-bounds s 1 13) ∙ ap (member (λ n d. clientMember n (items d))) (last-means s 1 13))
+
+-- ---- a ServerMessage
+
+server-from : (s : List ℕ) (x : Last) → serverValue s (serverFrom x) ≡ member serverMember (contentOf s x)
+unfolding serverFrom serverValue member
+server-from s last.Nothing = refl
+server-from s (last.Number f v) = refl
+server-from s (last.Part f a e) = refl
+
+server-checked : (s : List ℕ) (c : Checked) (x : ServerRead) → serverValue s (serverRead c x) ≡ after c (serverValue s x)
+unfolding serverRead serverValue after
+server-checked s checked.Fine x = refl
+server-checked s (checked.Refused r p) x = refl
+
+pub server-means : (s : List ℕ) → serverValue s (serverOf s) ≡ serverMessage s
+unfolding serverMessage
+server-means s =
+    server-checked s (checkOf 14 s) (serverFrom (lastIn 1 5 s))
+    ∙ ap (after (checkOf 14 s)) (server-from s (lastIn 1 5 s) ∙ ap (member serverMember) (last-means s 1 5))

@@ -1,4 +1,4 @@
--- What `clientMessage` promises of every message: an I/O buffer has a kind from 6 to 10; a refusal is one of 2 to 6.
+-- What `clientMessage` promises of every message: an I/O buffer has a kind from 6 to 10; a refusal is one of 2 to 6, of `serverMessage` too.
 use Prim.Native.Nat.{ℕ, _+_, _≤_}
 use native.Mathlib.Omega.{arith}
 use mathlib.Core.Path.{_≡_}
@@ -7,7 +7,7 @@ use mathlib.Core.List.{List, [], _∷_}
 use lib.Dec.{leb, eqb}
 use borrow.Author.Tests.{leb-true, eqb-false}
 use Rattle.base_laws.proofs.Order.{picked, both-true}
-use Rattle.wire_schema.specs.Schema.{ClientMessage}
+use Rattle.wire_schema.specs.Schema.{ClientMessage, ServerMessage}
 use Rattle.wire_check_field.proofs.Numbered.{CheckTold, check-told}
 use Rattle.wire_check_field.specs.Check.{checkOf}
 use Rattle.wire_fields.specs.Fields.{among}
@@ -15,7 +15,7 @@ use Rattle.wire_fields.specs.Items.{Item, none, number, bytes, items, lastFrom,
 use Rattle.wire_check_field.specs.declared.Checked.{Checked}
 use Rattle.wire_check_field.specs.declared.Checked.the-variants as checked
 use Rattle.wire_message.specs.Message.{Bytes, Client, acceptMsg, rejectMsg, exitMsg, restartMsg, alertMsg, ioBuf, winsizeEvent, suspendEvent, helloMsg, clientMember}
-use Rattle.wire.specs.Read.{Reading, value, refused, after, member, clientMessage}
+use Rattle.wire.specs.Read.{Reading, value, refused, after, member, clientMessage, serverMessage}
 
 -- ---- the member's number
 
@@ -104,3 +104,7 @@ member-numbered f (bytes n d) = tt
 pub message-numbered : (s : Bytes) → ReadNumbered (clientMessage s)
 unfolding clientMessage
 message-numbered s = after-numbered (checkOf ClientMessage s) _ (check-told ClientMessage s) (member-numbered _ (lastItem 1 13 (items s)))
+
+pub server-numbered : (s : Bytes) → ReadNumbered (serverMessage s)
+unfolding serverMessage
+server-numbered s = after-numbered (checkOf ServerMessage s) _ (check-told ServerMessage s) (member-numbered _ (lastItem 1 5 (items s)))

@@ -13,7 +13,7 @@ ghost use mathlib.Core.Path.{_≡_};
 ghost use Rattle.wire_fields.specs.Items.{items, lastItem};
 ghost use Rattle.wire_walk_client.specs.Client.{clientOf};
 ghost use Rattle.wire.specs.Read.{isAbsent, noMember, decodeNumber, readNumber, clientMessage, serverMessage};
-ghost use Rattle.wire.specs.Places.{clientValue, serverValue};
+ghost use Rattle.wire.specs.Places.{serverOf, clientValue, serverValue};
 
 // Has a oneof no member: its members are the fields from lo to hi.
 fn is_absent(s: &[u8], lo: u64, hi: u64) -> bool
@@ -102,7 +102,8 @@ pub enum ServerRead {
 }
 
 pub fn server_message(s: &[u8]) -> ServerRead
-    ensures { λ r. ⌜ serverValue (now (s .entry)) r ≡ serverMessage (now (s .entry)) ⌝ }
+    ensures places { λ r. ⌜ r ≡ serverOf (now (s .entry)) ⌝ }
+    ensures means { λ r. ⌜ serverValue (now (s .entry)) r ≡ serverMessage (now (s .entry)) ⌝ }
 {
     match check(SERVER_MESSAGE, s) {
         Checked::Refused { refusal, place } => ServerRead::Refused { refusal, place },

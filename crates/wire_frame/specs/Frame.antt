@@ -30,11 +30,11 @@ refusalOf (Wait n) = 0
 refusalOf (Frame n) = 0
 refusalOf Refused = 1
 
--- a whole frame, a refused one, one to wait for
+-- 2 for one to wait for, else the refusal's number
 unfoldable pub frameState : Cut → ℕ
 frameState (Wait n) = 2
-frameState (Frame n) = 0
-frameState Refused = 1
+frameState (Frame n) = refusalOf (Frame n)
+frameState Refused = refusalOf Refused
 
 -- the message length of a whole frame, or the bytes missing
 unfoldable pub countOf : Cut → ℕ

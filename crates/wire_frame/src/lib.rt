@@ -1,7 +1,7 @@
 // Frames: the cut of a stream of bytes into messages. Each answer is what specs/Frame says of the bytes at hand.
 ghost use mathlib.Core.Path.{_≡_};
 ghost use Prim.Native.Nat.{_+_, _*_};
-ghost use Rattle.wire_frame.specs.Frame.{cutOf, refusalOf, frameState, countOf};
+ghost use Rattle.wire_frame.specs.Frame.{cutOf, frameState, countOf};
 
 // The length of the longest message in a frame.
 const FRAME_LIMIT: usize = 2097152;
@@ -62,16 +62,5 @@ pub fn count_of(c: Cut) -> usize
         Cut::Wait { missing } => missing,
         Cut::Frame { length } => length,
         Cut::Refused => 0,
-    }
-}
-
-// The refusal's number, 0 for none.
-pub fn refusal_of(c: Cut) -> u8
-    ensures { λ r. ⌜ r ≡ refusalOf c ⌝ }
-{
-    match c {
-        Cut::Wait { missing: _ } => 0,
-        Cut::Frame { length: _ } => 0,
-        Cut::Refused => 1,
     }
 }

@@ -1,5 +1,6 @@
 // What the messages of sudo_logsrv.proto mean, and the values of each embedded message: numbers as they were read, and places
 // of bytes. They are those of every slice, checked or not; a message that the check refuses has the fields before the broken one.
+// Each contract says the answer itself, `places`, and what it means.
 use wire_fields::Last;
 use wire_fields::last_in;
 use wire_fields::number_in;
@@ -8,21 +9,24 @@ use wire_types::Span;
 use wire_types::Time;
 use wire_walk_io::time::time_in;
 ghost use mathlib.Core.Path.{_≡_};
+ghost use Rattle.wire_fields.specs.Fields.{numberIn};
 ghost use Rattle.wire_fields.specs.Items.{items, lastItem};
+ghost use Rattle.wire_walk_io.specs.Places.{timeNumbers};
 ghost use Rattle.wire_message.specs.Signed.{bool};
 ghost use Rattle.wire_message.specs.Message as m;
-ghost use Rattle.wire_message.specs.Places.{Within, timeValue, acceptValue, reportValue, exitValue, restartValue, timedValue, windowValue, serverHelloValue, valueAt, entryValue};
+ghost use Rattle.wire_message.specs.Places.{acceptAt, exitAt, restartAt, timedAt, windowAt, heldIn, timeValue, acceptValue, exitValue, restartValue, timedValue, windowValue, valueAt};
 
 // The bool of a field.
 fn flag_in(s: &[u8], number: u64) -> bool
-    ensures { λ r. ⌜ r ≡ bool (m.numberField number (items (now (s .entry)))) ⌝ }
+    ensures { λ r. ⌜ r ≡ bool (numberIn number (now (s .entry))) ⌝ }
 {
     number_in(s, number) != 0
 }
 
 // A TimeSpec by itself.
 pub fn time_spec_in(s: &[u8]) -> Time
-    ensures { λ r. ⌜ timeValue r ≡ m.timeSpec (items (now (s .entry))) ⌝ }
+    ensures places { λ r. ⌜ r ≡ timeNumbers (now (s .entry)) ⌝ }
+    ensures means { λ r. ⌜ timeValue r ≡ m.timeSpec (items (now (s .entry))) ⌝ }
 {
     Time {
         seconds: number_in(s, 1),
@@ -37,26 +41,12 @@ pub struct Accept {
 }
 
 pub fn accept_in(s: &[u8]) -> Accept
-    ensures { λ r. ⌜ acceptValue (now (s .entry)) r ≡ m.accept (items (now (s .entry))) ⌝ }
+    ensures places { λ r. ⌜ r ≡ acceptAt (now (s .entry)) ⌝ }
+    ensures means { λ r. ⌜ acceptValue (now (s .entry)) r ≡ m.accept (items (now (s .entry))) ⌝ }
 {
     Accept {
         submit_time: time_in(s, 1),
         expect_iobufs: flag_in(s, 3),
-    }
-}
-
-// A RejectMessage or an AlertMessage. Its entries are its fields 3.
-pub struct Report {
-    pub time: Time,
-    pub reason: Span,
-}
-
-pub fn report_in(s: &[u8]) -> Report
-    ensures { λ r. ⌜ reportValue (now (s .entry)) r ≡ m.report (items (now (s .entry))) ⌝ }
-{
-    Report {
-        time: time_in(s, 1),
-        reason: part_in(s, 2),
     }
 }
 
@@ -70,9 +60,8 @@ pub struct Exit {
 }
 
 pub fn exit_in(s: &[u8]) -> Exit
-    ensures value { λ r. ⌜ exitValue (now (s .entry)) r ≡ m.exit (items (now (s .entry))) ⌝ }
-    ensures signal { λ r. ⌜ Within (now (s .entry)) (r .signal) ⌝ }
-    ensures error { λ r. ⌜ Within (now (s .entry)) (r .error) ⌝ }
+    ensures places { λ r. ⌜ r ≡ exitAt (now (s .entry)) ⌝ }
+    ensures means { λ r. ⌜ exitValue (now (s .entry)) r ≡ m.exit (items (now (s .entry))) ⌝ }
 {
     Exit {
         run_time: time_in(s, 1),
@@ -89,7 +78,8 @@ pub struct Restart {
 }
 
 pub fn restart_in(s: &[u8]) -> Restart
-    ensures { λ r. ⌜ restartValue (now (s .entry)) r ≡ m.restart (items (now (s .entry))) ⌝ }
+    ensures places { λ r. ⌜ r ≡ restartAt (now (s .entry)) ⌝ }
+    ensures means { λ r. ⌜ restartValue (now (s .entry)) r ≡ m.restart (items (now (s .entry))) ⌝ }
 {
     Restart {
         log_id: part_in(s, 1),
@@ -104,8 +94,8 @@ pub struct Timed {
 }
 
 pub fn timed_in(s: &[u8]) -> Timed
-    ensures value { λ r. ⌜ timedValue (now (s .entry)) r ≡ m.timed (items (now (s .entry))) ⌝ }
-    ensures within { λ r. ⌜ Within (now (s .entry)) (r .contents) ⌝ }
+    ensures places { λ r. ⌜ r ≡ timedAt (now (s .entry)) ⌝ }
+    ensures means { λ r. ⌜ timedValue (now (s .entry)) r ≡ m.timed (items (now (s .entry))) ⌝ }
 {
     Timed {
         delay: time_in(s, 1),
@@ -121,29 +111,13 @@ pub struct WindowSize {
 }
 
 pub fn window_size_in(s: &[u8]) -> WindowSize
-    ensures { λ r. ⌜ windowValue r ≡ m.windowSize (items (now (s .entry))) ⌝ }
+    ensures places { λ r. ⌜ r ≡ windowAt (now (s .entry)) ⌝ }
+    ensures means { λ r. ⌜ windowValue r ≡ m.windowSize (items (now (s .entry))) ⌝ }
 {
     WindowSize {
         delay: time_in(s, 1),
         rows: number_in(s, 2),
         cols: number_in(s, 3),
-    }
-}
-
-// A ServerHello. Its servers are its fields 3.
-pub struct ServerHello {
-    pub server_id: Span,
-    pub redirect: Span,
-    pub subcommands: bool,
-}
-
-pub fn server_hello_in(s: &[u8]) -> ServerHello
-    ensures { λ r. ⌜ serverHelloValue (now (s .entry)) r ≡ m.serverHello (items (now (s .entry))) ⌝ }
-{
-    ServerHello {
-        server_id: part_in(s, 1),
-        redirect: part_in(s, 2),
-        subcommands: flag_in(s, 4),
     }
 }
 
@@ -158,7 +132,8 @@ pub enum Value {
 }
 
 pub fn value_in(s: &[u8]) -> Value
-    ensures { λ r. ⌜ valueAt (now (s .entry)) r ≡ m.valueOf (lastItem 2 5 (items (now (s .entry)))) ⌝ }
+    ensures places { λ r. ⌜ r ≡ heldIn (now (s .entry)) ⌝ }
+    ensures means { λ r. ⌜ valueAt (now (s .entry)) r ≡ m.valueOf (lastItem 2 5 (items (now (s .entry)))) ⌝ }
 {
     match last_in(s, 2, 5) {
         Last::Nothing => Value::Absent,
@@ -175,20 +150,5 @@ pub fn value_in(s: &[u8]) -> Value
             }
             Value::Absent
         }
-    }
-}
-
-// An InfoMessage: one entry of an accept, a reject or an alert.
-pub struct Entry {
-    pub key: Span,
-    pub value: Value,
-}
-
-pub fn entry_in(s: &[u8]) -> Entry
-    ensures { λ r. ⌜ entryValue (now (s .entry)) r ≡ m.entry (items (now (s .entry))) ⌝ }
-{
-    Entry {
-        key: part_in(s, 1),
-        value: value_in(s),
     }
 }

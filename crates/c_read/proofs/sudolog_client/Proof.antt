@@ -1,65 +1,71 @@
--- Each case of what client_message answers is one of `clientAnswer` and `clientBuffer`, by what `between` and lay_five ensure.
-use Rattle.c_read.specs.Answers.{clientAnswer, clientBuffer, clientNumbers}
+-- Each case of what client_message answers is a law of Told: an I/O buffer, another member, none, a refusal.
+use Prim.Native.Nat.{_<_}
+use native.Mathlib.Omega.{arith}
 use mathlib.Core.Path.{sym, _∙_}
+use Rattle.c_read.proofs.Told.{io-told, member-told, client-none, client-refused}
 use borrow.Author.Needs.{needs}
 use Rattle.c_read.proofs.sudolog_client.Statement.{statement}
 use Rattle.c_read.proofs.sudolog_client.Tie as tie
 
+-- an I/O buffer's start has 64 bits
+start-fits : (c : tie.After-known-told) → c .before .member .given .0 .1 .1 .1 .0 < 18446744073709551616
+start-fits c = omega arith
+
 returns : tie.Need-returns
-unfolding clientAnswer clientBuffer clientNumbers
 returns c =
-    let at-lay-five = c .before .before .before in
-    let at-between = at-lay-five .before .before in
+    let at-lay = c .before .before .before in
+    let at-between = at-lay .before .before in
     let at-member = at-between .before .before in
-    let at-client-message = at-member .before .before in
-    let e = sym (at-client-message .client-message .ensures .0) ∙ at-member .member .given .1 in (
-      rw (e, sym (at-lay-five .lay-five .ensures .0) ∙ c .if1 .taken),
-      rw (e, ← at-between .between .ensures) (at-lay-five .lay-five .ensures .1),
-    )
+    let at-read = at-member .before .before in
+    let a = at-read .before .before .before .args in
+    io-told (a .s .now) (a .out .now) _ _ _ _ _ (omega arith) (start-fits (at-between .before)) (omega arith) (omega arith) (omega arith)
+    (sym (at-read .client-message .ensures .0) ∙ at-member .member .given .1)
+    _ (sym (at-lay .lay-five .ensures .0) ∙ c .if1 .taken) _ (rw (← at-between .between .ensures) (at-lay .lay-five .ensures .1))
 
 returns-2 : tie.Need-returns-2
-unfolding clientAnswer clientBuffer clientNumbers
 returns-2 c =
-    let at-lay-five2 = c .before .before .before in
-    let at-between2 = at-lay-five2 .before .before in
-    let at-member2 = at-between2 .before .before in
-    let at-client-message = at-member2 .before .before in
-    let e = sym (at-client-message .client-message .ensures .0) ∙ at-member2 .member2 .given .1 in (
-      rw (e, sym (at-lay-five2 .lay-five2 .ensures .0) ∙ c .if2 .taken),
-      rw (e, ← at-between2 .between2 .ensures) (at-lay-five2 .lay-five2 .ensures .1),
-    )
+    let at-lay = c .before .before .before in
+    let at-between = at-lay .before .before in
+    let at-member = at-between .before .before in
+    let at-read = at-member .before .before in
+    let a = at-read .before .before .before .args in
+    member-told (a .s .now) (a .out .now) _ _ _ (omega arith) (omega arith) (omega arith)
+    (sym (at-read .client-message .ensures .0) ∙ at-member .member2 .given .1)
+    _ (sym (at-lay .lay-five2 .ensures .0) ∙ c .if2 .taken) _ (rw (← at-between .between2 .ensures) (at-lay .lay-five2 .ensures .1))
 
 returns-3 : tie.Need-returns-3
-unfolding clientAnswer clientBuffer clientNumbers
 returns-3 c =
-    let at-lay-five = c .before .before .before in
-    let at-between = at-lay-five .before .before in
+    let at-lay = c .before .before .before in
+    let at-between = at-lay .before .before in
     let at-member = at-between .before .before in
-    let at-client-message = at-member .before .before in
-    let e = sym (at-client-message .client-message .ensures .0) ∙ at-member .member .given .1 in (
-      rw (e, sym (at-lay-five .lay-five .ensures .0) ∙ c .if1 .left),
-      rw (e, ← at-between .between .ensures) (at-lay-five .lay-five .ensures .1),
-    )
+    let at-read = at-member .before .before in
+    let a = at-read .before .before .before .args in
+    io-told (a .s .now) (a .out .now) _ _ _ _ _ (omega arith) (start-fits (at-between .before)) (omega arith) (omega arith) (omega arith)
+    (sym (at-read .client-message .ensures .0) ∙ at-member .member .given .1)
+    _ (sym (at-lay .lay-five .ensures .0) ∙ c .if1 .left) _ (rw (← at-between .between .ensures) (at-lay .lay-five .ensures .1))
 
 returns-4 : tie.Need-returns-4
-unfolding clientAnswer clientBuffer clientNumbers
 returns-4 c =
-    let at-lay-five2 = c .before .before .before in
-    let at-between2 = at-lay-five2 .before .before in
-    let at-member2 = at-between2 .before .before in
-    let at-client-message = at-member2 .before .before in
-    let e = sym (at-client-message .client-message .ensures .0) ∙ at-member2 .member2 .given .1 in (
-      rw (e, sym (at-lay-five2 .lay-five2 .ensures .0) ∙ c .if2 .left),
-      rw (e, ← at-between2 .between2 .ensures) (at-lay-five2 .lay-five2 .ensures .1),
-    )
+    let at-lay = c .before .before .before in
+    let at-between = at-lay .before .before in
+    let at-member = at-between .before .before in
+    let at-read = at-member .before .before in
+    let a = at-read .before .before .before .args in
+    member-told (a .s .now) (a .out .now) _ _ _ (omega arith) (omega arith) (omega arith)
+    (sym (at-read .client-message .ensures .0) ∙ at-member .member2 .given .1)
+    _ (sym (at-lay .lay-five2 .ensures .0) ∙ c .if2 .left) _ (rw (← at-between .between2 .ensures) (at-lay .lay-five2 .ensures .1))
 
 returns-5 : tie.Need-returns-5
-unfolding clientAnswer clientBuffer
-returns-5 c = let e = sym (c .before .before .client-message .ensures .0) ∙ c .enum-told .given .1 in (rw e, rw e)
+returns-5 c =
+    let at-read = c .before .before in
+    let a = at-read .before .before .before .args in
+    client-none (a .s .now) (a .out .now) (sym (at-read .client-message .ensures .0) ∙ c .enum-told .given .1)
 
 returns-6 : tie.Need-returns-6
-unfolding clientAnswer clientBuffer
-returns-6 c = let e = sym (c .before .before .before .client-message .ensures .0) ∙ c .before .refusal .given .1 in (rw e, rw e)
+returns-6 c =
+    let at-read = c .before .before .before in
+    let a = at-read .before .before .before .args in
+    client-refused (a .s .now) (a .out .now) _ _ (sym (at-read .client-message .ensures .0) ∙ c .before .refusal .given .1)
 
 pub sudolog-client-spec : {M : Type 1} → statement M
 sudolog-client-spec =

@@ -14,7 +14,7 @@ use Rattle.session_fast_accept.proofs.date_seen.Tie as tie
 returns : tie.Need-returns
 unfolding dateFits timeValue int32
 returns c = let t = c .before .time-spec-in in
-    sym (up-to 999999999 2147483648 (t .result .nanos % 4294967296) (lit≤ tt)) ∙ ap (λ (x : TimeSpec). dateFits x) (t .ensures)
+    sym (up-to 999999999 2147483648 (t .result .nanos % 4294967296) (lit≤ tt)) ∙ ap (λ (x : TimeSpec). dateFits x) (t .ensures .1)
 
 pub date-seen-spec : {M : Type 1} → statement M
 date-seen-spec = tie.close (tie.spec (λ c κs. search needs) returns)

@@ -1,11 +1,11 @@
--- Each case of what cut_frame answered is one of the definition `frameState`: rw by the case.
+-- Each case of what cut_frame answered is one of the definition `frameState`, a refused one's number `refusalOf`: rw by the case.
 use borrow.Author.Needs.{needs}
-use Rattle.wire_frame.specs.Frame.{frameState}
+use Rattle.wire_frame.specs.Frame.{refusalOf, frameState}
 use Rattle.wire_frame.proofs.state_of.Statement.{statement}
 use Rattle.wire_frame.proofs.state_of.Tie as tie
 
 pub state-of-spec : {M : Type 1} → statement M
-unfolding frameState
+unfolding refusalOf frameState
 state-of-spec =
     tie.close
     (tie.spec

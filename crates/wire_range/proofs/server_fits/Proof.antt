@@ -30,7 +30,7 @@ returns c =
     let at-if1 = at-time .before .before in
     let at-number = at-if1 .before .before in
     let is = last-is _ 1 5 (at-number .before .before .last-in .ensures) (at-number .number .given .1) in
-    rw (← is, eq-eqb _ _ (at-if1 .if1 .taken), ← at-time .time-spec-in .ensures) (c .moment-fits .ensures)
+    rw (← is, eq-eqb _ _ (at-if1 .if1 .taken), ← at-time .time-spec-in .ensures .1) (c .moment-fits .ensures)
 
 returns-2 : tie.Need-returns-2
 unfolding serverFits

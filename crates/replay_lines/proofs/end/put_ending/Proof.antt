@@ -1,5 +1,7 @@
 -- Each case of the end is one of `endText`; its parts are joined by Puts.then, an end at 0 puts nothing.
 use Rattle.replay_lines.specs.Ending.{endText}
+use Rattle.wire_frame.specs.Frame.{refusalOf}
+use Rattle.replay_text.specs.Words.{decimal, decimalDigits}
 use borrow.Author.Tests.{eq-eqb, ne-eqb}
 use native.Mathlib.Omega.{arith}
 use Rattle.base_copy.proofs.Puts.{then, nothing}
@@ -35,7 +37,7 @@ returns-3 c =
     rw (at-raw3 .before .before .before .before .end2 .given .1) (then begun (at-decimal3 .put-decimal3 .ensures .0), omega arith)
 
 returns-4 : tie.Need-returns-4
-unfolding endText
+unfolding endText refusalOf decimal decimalDigits
 returns-4 c = rw (c .before .before .before .before .before .enum-told .given .1) (c .before .before .put-raw5 .ensures, omega arith)
 
 returns-5 : tie.Need-returns-5
