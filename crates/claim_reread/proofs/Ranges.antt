@@ -2,13 +2,14 @@
 -- RoundTrip asks an int32 or 64 bits are in range within that.
 use Prim.Native.Nat.{ℕ, _-_, _%_, _^_, _≤_, _<_}
 use native.Mathlib.Omega.{arith}
-use mathlib.Core.Path.{_≡_, refl, ap}
+use mathlib.Core.Path.{_≡_, refl, sym, ap, _∙_}
 use mathlib.Core.Bool.{Bool, true, false}
-use lib.IntN.{negsuc}
+use mathlib.Core.Logic.{_⊎_, inl, inr, ⊎-elim}
+use lib.IntN.{ℤ, pos, negsuc}
 use lib.Dec.{ltb, leb}
 use borrow.Author.Tests.{leb-true, le-leb, ltb-true, lt-ltb, le-ltb}
 use Rattle.base_laws.specs.Base.{pick}
-use Rattle.base_laws.proofs.Order.{both-true}
+use Rattle.base_laws.proofs.Order.{lt-or-le, both-true}
 use Rattle.wire_message.specs.Signed.{signed, int64, int32}
 use Rattle.wire_message.specs.Message.{Bytes}
 use Rattle.wire_range.specs.Limits as l
@@ -49,6 +50,36 @@ int32-in v b q = go (ltb v 2147483648) refl q
     go : (t : Bool) → ltb v 2147483648 ≡ t → pick t true (leb 18446744071562067968 v) ≡ true → Int32 v
     go true e h = small v (let l = ltb-true v 2147483648 e in omega arith)
     go false e h = negative v b (leb-true 18446744071562067968 v h)
+
+-- and no other test does: the 64 bits of an int32 are below 2^31, or from 2^64 - 2^31 on
+allBits : ℤ → ℕ
+allBits (pos n) = n
+allBits (negsuc n) = 18446744073709551615 - n
+
+of-int64 : (v : ℕ) → v < 2 ^ 64 → allBits (int64 v) ≡ v
+unfolding allBits int64 signed
+of-int64 v b =
+    ⊎-elim
+    (λ (l : v < 9223372036854775808). rw (lt-ltb v 9223372036854775808 l))
+    (λ (l : 9223372036854775808 ≤ v). rw (le-ltb v 9223372036854775808 l) (omega arith))
+    (lt-or-le v 9223372036854775808)
+
+of-int32 : (v : ℕ) → (allBits (int32 v) < 2147483648) ⊎ (18446744071562067968 ≤ allBits (int32 v))
+unfolding allBits int32 signed
+of-int32 v =
+    ⊎-elim
+    (λ (l : v % 4294967296 < 2147483648). inl (rw (lt-ltb (v % 4294967296) 2147483648 l) l))
+    (λ (l : 2147483648 ≤ v % 4294967296). inr (rw (le-ltb (v % 4294967296) 2147483648 l) (omega arith)))
+    (lt-or-le (v % 4294967296) 2147483648)
+
+pub int32-whole : (v : ℕ) → Int32 v → int32Fits v ≡ true
+unfolding int32Fits
+int32-whole v h =
+    let e : allBits (int32 v) ≡ v = ap allBits (sym (h .1)) ∙ of-int64 v (h .0) in
+    ⊎-elim
+    (λ (l : v < 2147483648). rw (lt-ltb v 2147483648 l))
+    (λ (l : 18446744071562067968 ≤ v). rw (le-ltb v 2147483648 (omega arith), le-leb 18446744071562067968 v l))
+    (rw e at (of-int32 v))
 
 -- ---- times
 

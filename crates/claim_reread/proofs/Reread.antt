@@ -38,7 +38,7 @@ use Rattle.write_forms.proofs.Embedded as back
 use Rattle.write_message.specs.Fits as w
 use Rattle.write_message.specs.Fits.{memberIn, dateFits, momentFits, sized}
 use Rattle.claim_reread.specs.Reread.{Taken, runOf, valuesFit, TakenClient, TakenTime, Given, handedIn, ClientAgain, ServerAgain, BodyAgain, RunAgain, Reread}
-use Rattle.claim_reread.proofs.Ranges.{in-32, small, int32-in, date-in, date-narrow, moment-in, moment-narrow, stamped, sized-in}
+use Rattle.claim_reread.proofs.Ranges.{in-32, small, int32-in, int32-whole, date-in, date-narrow, moment-in, moment-narrow, stamped, sized-in}
 
 -- ---- a writer that answers 0: no refusal of its run, values in range, a message that fits a frame
 
@@ -301,6 +301,10 @@ time-narrow : (t : Stamp) → Stamped t → TakenTime t → Narrow t
 unfolding w.timeFits
 time-narrow t n k = (n .0, int32-in (t .nanos) (n .1) (clear k .in-range))
 
+time-fits : (t : Stamp) → Narrow t → w.timeFits 0 t ≡ true
+unfolding w.timeFits
+time-fits t n = int32-whole (t .nanos) (n .1)
+
 handed : (t : Stamp) → Narrow t → stampValue t ≡ handedIn t
 handed t n = λ i. record { seconds = int64 (t .seconds); nanoseconds = sym (n .1 .1) i }
 
@@ -419,6 +423,7 @@ reread = record {
       let r = alone 10 (d.timePieces t) m.timeSpec (stampValue t) (λ z. omega arith) (λ z. omega arith) (round-trip .time-spec t n) refl in
       record { no-refusal = r .no-refusal; means = r .means ∙ handed t (time-narrow t n k) };
   time-narrow = time-narrow;
+  time-fits = time-fits;
   time-form = λ t u m n j k e. round-trip .time-form t u (time-narrow t m j) (time-narrow u n k) e .0;
   time-once = time-once;
   log-id-error-abort = note;

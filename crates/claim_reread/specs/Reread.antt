@@ -124,6 +124,8 @@ pub record Reread : Type 0 where
   pub commit-narrow : (t : Stamp) → Taken 0 (timeFits 2 t) (wrapped 2 (timePieces t)) → NarrowServer (commit t)
   pub time-alone : (t : Stamp) → Stamped t → TakenTime t → BodyAgain TimeSpec (timePieces t) m.timeSpec (handedIn t)
   pub time-narrow : (t : Stamp) → Stamped t → TakenTime t → Narrow t
+  -- every int64 and every int32 is in range
+  pub time-fits : (t : Stamp) → Narrow t → timeFits 0 t ≡ true
   -- "Each message has one written form": two of them that read back as the same values, or are written alike, are the same
   pub time-form : (t u : Stamp) → Stamped t → Stamped u → TakenTime t → TakenTime u → stampValue t ≡ stampValue u → t ≡ u
   pub time-once : (t u : Stamp) → Stamped t → Stamped u → TakenTime t → TakenTime u
