@@ -192,7 +192,8 @@ uint64_t sudolog_write_server_hello(uint64_t member, const uint8_t *server_id, s
                                     const uint8_t *redirect, size_t redirect_n, const uint8_t *servers, size_t servers_n,
                                     const size_t *ends, size_t ends_n, uint8_t subcommands,
                                     uint8_t framed, uint8_t *out, size_t room);
-/* A TimeSpec: member 0 by itself, with no range; 2 a ServerMessage's commit_point, with its range. */
+/* A TimeSpec: member 0 by itself, of any int64_t seconds and any int32_t nanoseconds (a negative one as its cast to uint64_t; other
+ * numbers of nanoseconds are 7); 2 a ServerMessage's commit_point, with its range. */
 uint64_t sudolog_write_time(uint64_t member, uint64_t seconds, uint64_t nanos, uint8_t framed, uint8_t *out, size_t room);
 /* A ServerMessage's log_id (member 3), error (4) or abort (5). Such a string is no message by itself: member 0 is 7. */
 uint64_t sudolog_write_note(uint64_t member, const uint8_t *text, size_t text_n, uint8_t framed, uint8_t *out, size_t room);

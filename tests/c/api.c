@@ -1304,9 +1304,29 @@ static void written_ranges_of_times(void)
     SPANS(WINDOW_AT);
     SPANS(SUSPEND_AT);
     SPANS(COMMIT_AT);
-    /* a TimeSpec by itself has no range */
+    /* a TimeSpec by itself is any int64 and any int32 */
     WRITES("\x08" MINUS_ONE "\x10" MINUS_ONE, sudolog_write_time(0, MINUS(1), MINUS(1), 0, WIDE));
     WRITES("\x10\x80\x94\xEB\xDC\x03", sudolog_write_time(0, 0, MOST_NANOS + 1, 0, WIDE));
+}
+
+/* Nanoseconds by themselves: one written form of each int32, and no other 64 bits. */
+static void written_int32(void)
+{
+    const uint64_t end = UINT64_C(1) << 31;
+    WRITES("\x08\x05\x10\xFF\xFF\xFF\xFF\x07", sudolog_write_time(0, 5, end - 1, 0, WIDE));
+    REFUSES(7, sudolog_write_time(0, 5, end, 0, WIDE));
+    REFUSES(7, sudolog_write_time(0, 5, 2 * end - 1, 0, WIDE));
+    REFUSES(7, sudolog_write_time(0, 5, 2 * end, 0, WIDE));
+    REFUSES(7, sudolog_write_time(0, 5, MINUS(end) - 1, 0, WIDE));
+    WRITES("\x08\x05\x10\x80\x80\x80\x80\xF8\xFF\xFF\xFF\xFF\x01", sudolog_write_time(0, 5, MINUS(end), 0, WIDE));
+    WRITES("\x08\x05\x10" MINUS_ONE, sudolog_write_time(0, 5, MINUS(1), 0, WIDE));
+    WRITES("\x08\x05", sudolog_write_time(0, 5, 0, 0, WIDE));
+    /* as a frame too, and before 12 */
+    REFUSES(7, sudolog_write_time(0, 5, 2 * end, 1, WIDE));
+    REFUSES(7, sudolog_write_time(0, 5, 2 * end, 0, buffer, 0));
+    /* as commit_point nanoseconds have their own range */
+    REFUSES(7, sudolog_write_time(2, 5, end - 1, 0, WIDE));
+    REFUSES(7, sudolog_write_time(2, 5, MINUS(end), 0, WIDE));
 }
 
 static void written_ranges_of_the_rest(void)
@@ -1518,6 +1538,7 @@ int main(void)
     lent_as_it_is();
     members_that_are_none();
     written_ranges_of_times();
+    written_int32();
     written_ranges_of_the_rest();
     exact_room();
     length_of_a_frame();

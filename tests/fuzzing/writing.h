@@ -99,6 +99,12 @@ static bool time_is_good(const struct values *v)
     return v->seconds <= 4294967295 && v->nanos <= 999999999;
 }
 
+/* Are 64 bits those of an int32. */
+static bool is_int32(uint64_t bits)
+{
+    return bits == (uint64_t)(int64_t)(int32_t)(uint32_t)bits;
+}
+
 static bool ends_are_good(const struct values *v)
 {
     size_t i, before = 0;
@@ -124,7 +130,7 @@ static bool values_are_good(const struct values *v)
     case WINDOW: return member_is(v, 11, 11) && time_is_good(v) && v->one <= 65535 && v->two <= 65535;
     case SUSPEND: return member_is(v, 12, 12) && time_is_good(v) && v->x_n >= 1 && v->x_n <= 127;
     case SERVER_HELLO: return member_is(v, 1, 1) && ends_are_good(v);
-    case TIME: return v->member == 0 || (v->member == 2 && time_is_good(v));
+    case TIME: return v->member == 0 ? is_int32(v->nanos) : v->member == 2 && time_is_good(v);
     case NOTE: return v->member >= 3 && v->member <= 5;
     case STRINGS: return ends_are_good(v);
     case NUMBERS: return true;
@@ -250,7 +256,9 @@ static bool is_small_message(const uint8_t *m, size_t n, const struct values *v)
     case RESTART:
         return sudolog_read_restart(m, n, &restart) == 0 && is_time(restart.resume_point, v)
                && is_span(m, restart.log_id, v->x, v->x_n);
-    case TIME: return sudolog_number(1, m, n) == v->seconds && sudolog_number(2, m, n) == v->nanos;
+    case TIME:
+        return sudolog_int64(sudolog_number(1, m, n)) == sudolog_int64(v->seconds)
+               && sudolog_int32(sudolog_number(2, m, n)) == sudolog_int64(v->nanos);
     case NOTE: return n == v->x_n && memcmp(m, v->x, n) == 0;
     case STRINGS: return sudolog_read_string_list(m, n, &strings) == 0 && are_strings(m, strings, v);
     default: return sudolog_read_number_list(m, n, &numbers) == 0 && are_numbers(numbers, v);

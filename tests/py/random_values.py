@@ -66,9 +66,9 @@ class Values:
         return [self.number(*SECONDS), self.number(*NANOSECONDS)]
 
     def time(self):
-        """A TimeSpec by itself has no range: any int64, any int32."""
+        """A TimeSpec by itself: any int64, any int32."""
         tame = Values(self.rng)
-        return [tame.number(*INT64), tame.number(*INT32)]
+        return [tame.number(*INT64), self.number(*INT32)]
 
     def strings(self):
         return [self.text() for _ in range(self.rng.choice((0, 0, 1, 2, 3, 8)))]

@@ -253,6 +253,7 @@ RANGES = {
     "ChangeWindowSize": lambda v: is_span(v["delay"]) and 0 <= v["rows"] <= 65535 and 0 <= v["cols"] <= 65535,
     "CommandSuspend": lambda v: is_span(v["delay"]) and is_size(v["signal"], 1, 127),
     "InfoMessage": is_entry,
+    "TimeSpec": lambda v: -2**31 <= v[1] < 2**31,  # by itself: a reader's are an int32
     "ServerMessage": lambda v: v["type"][0] != 2 or is_span(v["type"][1]),
 }
 

@@ -20,7 +20,7 @@ use Rattle.wire_check_field.specs.declared.Checked.the-variants as checked
 use Rattle.wire_fields.specs.Fields.{among}
 use Rattle.wire_fields.specs.Items as i
 use Rattle.wire_fields.specs.Items.{Item, items, lastFrom, lastItem}
-use Rattle.wire_message.specs.Signed.{int32}
+use Rattle.wire_message.specs.Signed.{int32, int64}
 use Rattle.wire_message.specs.Message as m
 use Rattle.wire_message.specs.Message.{Bytes, clientMember}
 use Rattle.wire_range.specs.Limits as l
@@ -31,14 +31,14 @@ use Rattle.write_forms.specs.Pieces.{Piece, bytes, front, encodeAll}
 use Rattle.write_forms.specs.Draft as d
 use Rattle.write_forms.specs.Draft.{Stamp, stampValue, EntryDraft, ClientDraft, ServerDraft, clientNumber, clientPieces, wrapped, writtenClient, writtenServer, meantClient, meantServer}
 use Rattle.write_forms.specs.Outcome.{refusal, roomRefusal, size, buffer}
-use Rattle.write_forms.specs.RoundTrip.{pieceItems, Numbered, Short, ReadsAs, ClientParts, ServerParts, EntryParts, NarrowClient, NarrowServer, Keyed, writtenRun}
+use Rattle.write_forms.specs.RoundTrip.{pieceItems, Numbered, Short, ReadsAs, ClientParts, ServerParts, EntryParts, Stamped, Narrow, NarrowClient, NarrowServer, Keyed, writtenRun}
 use Rattle.write_forms.proofs.RoundTrip.{io-kind, number-of, wrapped-is, round-trip}
 use Rattle.write_forms.proofs.Refusals.{no-refusal, value-set}
 use Rattle.write_forms.proofs.Embedded as back
 use Rattle.write_message.specs.Fits as w
 use Rattle.write_message.specs.Fits.{memberIn, dateFits, momentFits, sized}
-use Rattle.claim_reread.specs.Reread.{Taken, runOf, valuesFit, TakenClient, Given, ClientAgain, ServerAgain, BodyAgain, RunAgain, Reread}
-use Rattle.claim_reread.proofs.Ranges.{in-32, date-in, date-narrow, moment-in, moment-narrow, stamped, sized-in}
+use Rattle.claim_reread.specs.Reread.{Taken, runOf, valuesFit, TakenClient, TakenTime, Given, handedIn, ClientAgain, ServerAgain, BodyAgain, RunAgain, Reread}
+use Rattle.claim_reread.proofs.Ranges.{in-32, small, int32-in, int32-whole, date-in, date-narrow, moment-in, moment-narrow, stamped, sized-in}
 
 -- ---- a writer that answers 0: no refusal of its run, values in range, a message that fits a frame
 
@@ -106,7 +106,7 @@ narrow : (f : ℕ) (c : ClientDraft) → Given c → valuesFit f c ≡ true → 
 unfolding valuesFit
 narrow f (d.accept t r e) n q = date-narrow t n (accept-date f t q)
 narrow f (d.reject t x r) n q = date-narrow t n (report-date f t q)
-narrow f (d.exit t v c x y) n q = let p = exit-parts f t v x q in let b = p .1 in (moment-narrow t (p .0), omega arith)
+narrow f (d.exit t v c x y) n q = let p = exit-parts f t v x q in let b = p .1 in (moment-narrow t (p .0), small v (omega arith))
 narrow f (d.restart x t) n q = moment-narrow t (restart-parts f x t q .1)
 narrow f (d.alert t x r) n q = date-narrow t n (report-date f t q)
 narrow f (d.io k t x) n q = moment-narrow t (io-moment f t q)
@@ -114,7 +114,7 @@ narrow f (d.window t x y) n q =
     let p = window-parts f t x y q in
     let a = p .1 in
     let b = p .2 in
-    (moment-narrow t (p .0), (omega arith, omega arith))
+    (moment-narrow t (p .0), (small x (omega arith), small y (omega arith)))
 narrow f (d.suspend t x) n q = moment-narrow t (suspend-parts f t x q .0)
 narrow f (d.clientHello x) n q = tt
 
@@ -122,14 +122,11 @@ parts : (c : ClientDraft) → Given c → runOf c ≡ 0 → NarrowClient c → C
 unfolding runOf
 parts (d.accept t r e) n z q = (stamped t q, round-trip .run-taken 2 r z)
 parts (d.reject t x r) n z q = (stamped t q, round-trip .run-taken 3 r z)
-parts (d.exit t v c x y) n z q = let b = q .1 in (stamped t (q .0), omega arith)
+parts (d.exit t v c x y) n z q = (stamped t (q .0), q .1 .0)
 parts (d.restart x t) n z q = stamped t q
 parts (d.alert t x r) n z q = (stamped t q, round-trip .run-taken 3 r z)
 parts (d.io k t x) n z q = (n, stamped t q)
-parts (d.window t x y) n z q =
-    let a = q .1 .0 in
-    let b = q .1 .1 in
-    (stamped t (q .0), (omega arith, omega arith))
+parts (d.window t x y) n z q = (stamped t (q .0), (q .1 .0 .0, q .1 .1 .0))
 parts (d.suspend t x) n z q = stamped t q
 parts (d.clientHello x) n z q = tt
 
@@ -298,6 +295,25 @@ commit-point t k =
     server (d.commit t) 2 (d.time t) n (wrapped-is 2 (d.timePieces t) (omega arith)) (omega arith) (omega arith) (clear k .short)
     (ap l.momentFits (back.time-back t n .means) ∙ moment-in t (commit-fits t k))
 
+-- ---- a TimeSpec by itself
+
+time-narrow : (t : Stamp) → Stamped t → TakenTime t → Narrow t
+unfolding w.timeFits
+time-narrow t n k = (n .0, int32-in (t .nanos) (n .1) (clear k .in-range))
+
+time-fits : (t : Stamp) → Narrow t → w.timeFits 0 t ≡ true
+unfolding w.timeFits
+time-fits t n = int32-whole (t .nanos) (n .1)
+
+handed : (t : Stamp) → Narrow t → stampValue t ≡ handedIn t
+handed t n = λ i. record { seconds = int64 (t .seconds); nanoseconds = sym (n .1 .1) i }
+
+time-once : (t u : Stamp) → Stamped t → Stamped u → TakenTime t → TakenTime u → wrapped 0 (d.timePieces t) ≡ wrapped 0 (d.timePieces u) → t ≡ u
+time-once t u m n j k e =
+    round-trip .time-once t u (time-narrow t m j) (time-narrow u n k) (sym (unwrapped (d.timePieces t)) ∙ e ∙ unwrapped (d.timePieces u))
+
+-- ---- log_id, error, abort
+
 note : (f : ℕ) (x : Bytes) → Taken 0 (w.noteFits f) (encodeAll (bytes f x ∷ [])) → ServerAgain (d.note f x)
 unfolding writtenServer
 note f x t =
@@ -403,7 +419,13 @@ reread = record {
       alone 15 ps m.serverHello _ (λ z. omega arith) (λ z. omega arith) (round-trip .server-hello x y (d.cutAt joined 0 ends) e (short-alone ps t)) refl;
   commit-point = commit-point;
   commit-narrow = commit-narrow;
-  time-alone = λ t n k. alone 10 (d.timePieces t) m.timeSpec _ (λ z. omega arith) (λ z. omega arith) (round-trip .time-spec t n) refl;
+  time-alone = λ t n k.
+      let r = alone 10 (d.timePieces t) m.timeSpec (stampValue t) (λ z. omega arith) (λ z. omega arith) (round-trip .time-spec t n) refl in
+      record { no-refusal = r .no-refusal; means = r .means ∙ handed t (time-narrow t n k) };
+  time-narrow = time-narrow;
+  time-fits = time-fits;
+  time-form = λ t u m n j k e. round-trip .time-form t u (time-narrow t m j) (time-narrow u n k) e .0;
+  time-once = time-once;
   log-id-error-abort = note;
   entry = entry;
   entry-alone = entry-alone;

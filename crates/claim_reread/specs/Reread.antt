@@ -19,7 +19,7 @@ use Rattle.write_forms.specs.Pieces.{Piece, bytes, encodeAll, front}
 use Rattle.write_forms.specs.Draft.{Stamp, stampValue, timePieces, serverHelloPieces, stringListPieces, numberListPieces, EntryDraft, entryPieces, ClientDraft, accept, reject, exit, restart, alert, io, window, suspend, clientHello, clientNumber, clientPieces, wrapped, writtenClient, ServerDraft, serverHello, commit, note, writtenServer, meantClient, meantServer, meantEntry, cutAt}
 use Rattle.write_forms.specs.Run.{runRefusal}
 use Rattle.write_forms.specs.Outcome.{refusal, size, buffer}
-use Rattle.write_forms.specs.RoundTrip.{AllFit, Stamped, EntryParts, WritableClient, NarrowClient, NarrowServer}
+use Rattle.write_forms.specs.RoundTrip.{AllFit, Stamped, EntryParts, WritableClient, Narrow, NarrowClient, NarrowServer}
 use Rattle.write_message.specs.Fits.{clientHelloFits, acceptFits, reportFits, exitFits, restartFits, ioFits, windowFits, suspendFits, endsFit, serverHelloFits, timeFits, noteFits, entryFits, entryStringsFits}
 
 -- ---- what is taken
@@ -57,6 +57,10 @@ valuesFit f (clientHello d) = clientHelloFits f
 abbrev pub TakenClient : ℕ → ClientDraft → Type 0
 TakenClient f d = Taken (runOf d) (valuesFit f d) (wrapped f (clientPieces d))
 
+-- a TimeSpec by itself
+abbrev pub TakenTime : Stamp → Type 0
+TakenTime t = Taken 0 (timeFits 0 t) (wrapped 0 (timePieces t))
+
 -- What no range says: where "any seconds" are taken they are a number of 64 bits, as the argument is; and the kind of an I/O
 -- buffer, 6 to 10, which a buffer by itself does not show.
 abbrev pub Given : ClientDraft → Type 0
@@ -69,6 +73,10 @@ Given (io k t d) = (6 ≤ k) × (k ≤ 10)
 Given (window t x y) = Unit
 Given (suspend t d) = Unit
 Given (clientHello d) = Unit
+
+-- a TimeSpec's values as they are handed in: the numbers that all their 64 bits stand for
+abbrev pub handedIn : Stamp → m.TimeSpec
+handedIn t = record { seconds = int64 (t .seconds); nanoseconds = int64 (t .nanos) }
 
 -- ---- what is read
 
@@ -114,8 +122,14 @@ pub record Reread : Type 0 where
       (record { serverId = id; redirect = redirect; servers = cutAt joined 0 ends; subcommands = sub })
   pub commit-point : (t : Stamp) → Taken 0 (timeFits 2 t) (wrapped 2 (timePieces t)) → ServerAgain (commit t)
   pub commit-narrow : (t : Stamp) → Taken 0 (timeFits 2 t) (wrapped 2 (timePieces t)) → NarrowServer (commit t)
-  pub time-alone : (t : Stamp) → Stamped t → Taken 0 (timeFits 0 t) (wrapped 0 (timePieces t))
-      → BodyAgain TimeSpec (timePieces t) m.timeSpec (stampValue t)
+  pub time-alone : (t : Stamp) → Stamped t → TakenTime t → BodyAgain TimeSpec (timePieces t) m.timeSpec (handedIn t)
+  pub time-narrow : (t : Stamp) → Stamped t → TakenTime t → Narrow t
+  -- every int64 and every int32 is in range
+  pub time-fits : (t : Stamp) → Narrow t → timeFits 0 t ≡ true
+  -- "Each message has one written form": two of them that read back as the same values, or are written alike, are the same
+  pub time-form : (t u : Stamp) → Stamped t → Stamped u → TakenTime t → TakenTime u → stampValue t ≡ stampValue u → t ≡ u
+  pub time-once : (t u : Stamp) → Stamped t → Stamped u → TakenTime t → TakenTime u
+      → wrapped 0 (timePieces t) ≡ wrapped 0 (timePieces u) → t ≡ u
   pub log-id-error-abort : (f : ℕ) (d : Bytes) → Taken 0 (noteFits f) (encodeAll (bytes f d ∷ [])) → ServerAgain (note f d)
   -- an entry with its tag is a run of one entry; its writer takes the fields 2 and 3
   pub entry : (f : ℕ) → 1 ≤ f → (key : Bytes) (v : EntryDraft) → EntryParts v → Taken 0 (entryFits f key) (wrapped f (entryPieces key v))

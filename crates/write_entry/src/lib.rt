@@ -1,6 +1,5 @@
 // Entries. An entry is written by itself, or tagged as in the run of an AcceptMessage (member 2), a RejectMessage or
 // an AlertMessage (member 3): runs are tagged entries one after the other. Lists of strings are lent as joined bytes and ends.
-use write_lists::ends_fit;
 use write_message::fits::both;
 use write_message::fits::member_in;
 use write_message::form::listed;
@@ -65,7 +64,7 @@ pub fn write_entry_strings(
     ensures answer { λ r. ⌜ r ≡ wrote 0 (entryStringsFits member (now (key .entry)) (now (joined .entry)) (now (ends .entry))) framed (wrapped member (entryPieces (now (key .entry)) (strlistval (cutAt (now (joined .entry)) 0 (now (ends .entry)))))) (length (now (out .entry))) ⌝ }
     ensures buffer { λ r. ⌜ now (out .exit) ≡ buffer 0 (entryStringsFits member (now (key .entry)) (now (joined .entry)) (now (ends .entry))) framed (wrapped member (entryPieces (now (key .entry)) (strlistval (cutAt (now (joined .entry)) 0 (now (ends .entry)))))) (now (out .entry)) ⌝ }
 {
-    let fits = both(entry_fits(member, key), ends_fit(joined.len(), ends));
+    let fits = entry_fits(member, key);
     let p = listed(1, 4, 0);
     write_message(
         0,

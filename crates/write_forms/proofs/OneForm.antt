@@ -1,6 +1,6 @@
--- A draft whose numbers have their fields' width is told by what it means, but for a lent run: so each message has one written
+-- A draft whose numbers are their fields' is told by what it means, but for a lent run: so each message has one written
 -- form.
-use Prim.Native.Nat.{ℕ, _+_, _-_, _%_, _^_, _≤_, _<_}
+use Prim.Native.Nat.{ℕ, _+_, _-_, _^_, _≤_, _<_}
 use native.Mathlib.Omega.{arith}
 use mathlib.Core.Path.{_≡_, refl, sym, ap, _∙_}
 use mathlib.Core.List.{List, [], _∷_, map}
@@ -16,7 +16,7 @@ use Rattle.wire_message.specs.Message as m
 use Rattle.wire_message.specs.Message.{Bytes, TimeSpec, Client, Server}
 use Rattle.write_forms.specs.Pieces.{encodeAll}
 use Rattle.write_forms.specs.Draft.{Stamp, stampValue, EntryDraft, numval, strval, strlistval, numlistval, entryPieces, ClientDraft, accept, reject, exit, restart, alert, io, window, suspend, clientHello, writtenClient, ServerDraft, serverHello, commit, note, writtenServer, meantClient, meantServer, meantValue, meantEntry}
-use Rattle.write_forms.specs.RoundTrip.{AllFit, EntryParts, Narrow, NarrowClient, NarrowServer, lentRun}
+use Rattle.write_forms.specs.RoundTrip.{AllFit, EntryParts, Int32, Narrow, NarrowClient, NarrowServer, lentRun, BodyDraft, memberBody, helloBody, timeBody, entryBody, stringsBody, numbersBody, Body, memberValue, helloValue, timeValue, entryValue, stringsValue, numbersValue, writtenBody, meantBody, NarrowBody, bodyRun}
 
 -- the bits of a number in two's complement, `half` being the first that stand for a negative one
 abbrev bits : ℕ → ℤ → ℕ
@@ -38,30 +38,26 @@ wide-back : (v : ℕ) → v < 2 ^ 64 → wide (int64 v) ≡ v
 unfolding wide int64
 wide-back v h = bits-back 9223372036854775808 v h
 
-slim : ℤ → ℕ
-slim x = bits 2147483648 x
-
-slim-back : (v : ℕ) → v < 2 ^ 32 → slim (int32 v) ≡ v
-unfolding slim int32
-slim-back v h = let e : v % 4294967296 ≡ v = omega arith in rw e (bits-back 2147483648 v h)
+int32-back : (v : ℕ) → Int32 v → wide (int32 v) ≡ v
+int32-back v h = ap wide (sym (h .1)) ∙ wide-back v (h .0)
 
 stampOf : TimeSpec → Stamp
-stampOf t = record { seconds = wide (t .seconds); nanos = slim (t .nanoseconds) }
+stampOf t = record { seconds = wide (t .seconds); nanos = wide (t .nanoseconds) }
 
 stamp-back : (t : Stamp) → Narrow t → stampOf (stampValue t) ≡ t
 unfolding stampOf
-stamp-back t h = λ j. record { seconds = wide-back (t .seconds) (h .0) j; nanos = slim-back (t .nanos) (h .1) j }
+stamp-back t h = λ j. record { seconds = wide-back (t .seconds) (h .0) j; nanos = int32-back (t .nanos) (h .1) j }
 
 -- ---- ClientMessage
 
 draftOf : Bytes → Client → ClientDraft
 draftOf r (m.acceptMsg a) = accept (stampOf (a .submitTime)) r (a .expectIobufs)
 draftOf r (m.rejectMsg a) = reject (stampOf (a .time)) (a .reason) r
-draftOf r (m.exitMsg a) = exit (stampOf (a .runTime)) (slim (a .exitValue)) (a .dumpedCore) (a .signal) (a .error)
+draftOf r (m.exitMsg a) = exit (stampOf (a .runTime)) (wide (a .exitValue)) (a .dumpedCore) (a .signal) (a .error)
 draftOf r (m.restartMsg a) = restart (a .logId) (stampOf (a .resumePoint))
 draftOf r (m.alertMsg a) = alert (stampOf (a .time)) (a .reason) r
 draftOf r (m.ioBuf k a) = io k (stampOf (a .delay)) (a .contents)
-draftOf r (m.winsizeEvent a) = window (stampOf (a .delay)) (slim (a .rows)) (slim (a .cols))
+draftOf r (m.winsizeEvent a) = window (stampOf (a .delay)) (wide (a .rows)) (wide (a .cols))
 draftOf r (m.suspendEvent a) = suspend (stampOf (a .delay)) (a .contents)
 draftOf r (m.helloMsg d) = clientHello d
 
@@ -69,11 +65,11 @@ draft-back : (c : ClientDraft) → NarrowClient c → draftOf (lentRun c) (meant
 unfolding draftOf lentRun meantClient
 draft-back (accept t r e) h = ap (λ (s : Stamp). accept s r e) (stamp-back t h)
 draft-back (reject t x r) h = ap (λ (s : Stamp). reject s x r) (stamp-back t h)
-draft-back (exit t v c x y) h = λ j. exit (stamp-back t (h .0) j) (slim-back v (h .1) j) c x y
+draft-back (exit t v c x y) h = λ j. exit (stamp-back t (h .0) j) (int32-back v (h .1) j) c x y
 draft-back (restart x t) h = ap (λ (s : Stamp). restart x s) (stamp-back t h)
 draft-back (alert t x r) h = ap (λ (s : Stamp). alert s x r) (stamp-back t h)
 draft-back (io k t d) h = ap (λ (s : Stamp). io k s d) (stamp-back t h)
-draft-back (window t x y) h = λ j. window (stamp-back t (h .0) j) (slim-back x (h .1 .0) j) (slim-back y (h .1 .1) j)
+draft-back (window t x y) h = λ j. window (stamp-back t (h .0) j) (int32-back x (h .1 .0) j) (int32-back y (h .1 .1) j)
 draft-back (suspend t d) h = ap (λ (s : Stamp). suspend s d) (stamp-back t h)
 draft-back (clientHello d) h = refl
 
@@ -140,3 +136,30 @@ entry-form j k v w p q e =
     let x : v ≡ w = sym (value-back v p) ∙ ap (λ (n : m.Entry). valueDraftOf (n .value)) e ∙ value-back w q in
     let y : j ≡ k = ap (λ (n : m.Entry). n .key) e in
     λ i. encodeAll (entryPieces (y i) (x i))
+
+-- ---- every message by itself
+
+bodyDraftOf : Bytes → Body → BodyDraft
+bodyDraftOf r (memberValue c) = memberBody (draftOf r c)
+bodyDraftOf r (helloValue a) = helloBody (a .serverId) (a .redirect) (a .servers) (a .subcommands)
+bodyDraftOf r (timeValue t) = timeBody (stampOf t)
+bodyDraftOf r (entryValue e) = entryBody (e .key) (valueDraftOf (e .value))
+bodyDraftOf r (stringsValue ds) = stringsBody ds
+bodyDraftOf r (numbersValue ns) = numbersBody (map wide ns)
+
+body-draft-back : (b : BodyDraft) → NarrowBody b → bodyDraftOf (bodyRun b) (meantBody b) ≡ b
+unfolding bodyDraftOf bodyRun meantBody
+body-draft-back (memberBody d) h = ap memberBody (draft-back d h)
+body-draft-back (helloBody x y l e) h = refl
+body-draft-back (timeBody t) h = ap timeBody (stamp-back t h)
+body-draft-back (entryBody key v) h = ap (entryBody key) (value-back v h)
+body-draft-back (stringsBody ds) h = refl
+body-draft-back (numbersBody vs) h = ap numbersBody (all-wide vs h)
+
+pub body-form : (b c : BodyDraft) → NarrowBody b → NarrowBody c → bodyRun b ≡ bodyRun c → meantBody b ≡ meantBody c → writtenBody b ≡ writtenBody c
+body-form b c p q r e =
+    ap writtenBody
+    (sym (body-draft-back b p) ∙ ap (λ (x : Bytes). bodyDraftOf x (meantBody b)) r ∙ ap (bodyDraftOf (bodyRun c)) e ∙ body-draft-back c q)
+
+pub time-same : (t u : Stamp) → Narrow t → Narrow u → stampValue t ≡ stampValue u → t ≡ u
+time-same t u p q e = sym (stamp-back t p) ∙ ap stampOf e ∙ stamp-back u q

@@ -22,10 +22,10 @@ use Rattle.write_forms.specs.Pieces.{Piece, bytes, head, encode, encodeA
 use Rattle.write_forms.specs.Draft as d
 use Rattle.write_forms.specs.Draft.{ClientDraft, ServerDraft, EntryDraft, clientNumber, clientPieces, wrapped, writtenClient, writtenServer, meantClient, meantServer}
 use Rattle.write_forms.specs.Run.{runAt, runRefusal}
-use Rattle.write_forms.specs.RoundTrip.{Keyed, AllKeyed, writtenRun, AllWritable, Held, Numbered, Short, ReadsAs, EntryParts, ClientParts, WritableClient, WritableServer, RoundTrip}
+use Rattle.write_forms.specs.RoundTrip.{Keyed, AllKeyed, writtenRun, AllWritable, Held, Numbered, Short, ReadsAs, EntryParts, ClientParts, Stamped, WritableClient, WritableServer, Narrow, BodyDraft, memberBody, helloBody, timeBody, entryBody, stringsBody, numbersBody, Body, memberValue, helloValue, timeValue, entryValue, stringsValue, numbersValue, writtenBody, meantBody, readBody, WritableBody, RoundTrip}
 use Rattle.write_forms.proofs.Pieces.{fields-back, pieces-pass}
 use Rattle.write_forms.proofs.Values.{last-back, every-back}
-use Rattle.write_forms.proofs.OneForm.{client-form, server-form, entry-form}
+use Rattle.write_forms.proofs.OneForm.{client-form, server-form, entry-form, body-form, time-same}
 use Rattle.write_forms.proofs.Refusals.{entries-joined, no-refusal, no-refusal-of, run-joined-taken, entry-fits}
 use Rattle.write_forms.proofs.Joined.{items-joined}
 use Rattle.write_forms.proofs.Runs as runs
@@ -168,6 +168,32 @@ server-back (d.note f x) w =
     let k = note-kind f (w .0 .0) (w .0 .1) in
     server-of f x (meantServer (d.note f x)) (omega arith) (w .0 .1) (rw k refl) (rw k tt) (rw (ne-eqb f 1 (omega arith), ne-eqb f 2 (omega arith)) refl) (w .1)
 
+-- ---- every message by itself
+
+body-read : (b : BodyDraft) → WritableBody b → readBody b (writtenBody b) ≡ meantBody b
+unfolding readBody writtenBody meantBody
+body-read (memberBody c) w = ap memberValue (body-back c (w .0) (w .1) .means)
+body-read (helloBody x y l e) w = ap helloValue (server-hello-back x y l e (w .1) .means)
+body-read (timeBody t) w = ap timeValue (time-back t (w .0) .means)
+body-read (entryBody key v) w = ap entryValue (entry-back key v (w .0) (w .1) .means)
+body-read (stringsBody ds) w = ap stringsValue (strings-back ds (w .1) .means)
+body-read (numbersBody vs) w = ap numbersValue (numbers-back vs (w .0) (w .1) .means)
+
+body-once : (b c : BodyDraft) → WritableBody b → WritableBody c → ((s : Bytes) → readBody b s ≡ readBody c s) → writtenBody b ≡ writtenBody c
+    → meantBody b ≡ meantBody c
+body-once b c x y r e = sym (body-read b x) ∙ ap (readBody b) e ∙ r (writtenBody c) ∙ body-read c y
+
+stamped : (t : d.Stamp) → Narrow t → Stamped t
+stamped t h = (h .0, h .1 .0)
+
+time-once : (t u : d.Stamp) → Narrow t → Narrow u → d.time t ≡ d.time u → t ≡ u
+time-once t u p q e =
+    time-same t u p q
+    (sym (time-back t (stamped t p) .means) ∙ ap (λ (s : Bytes). m.timeSpec (items s)) e ∙ time-back u (stamped u q) .means)
+
+time-form : (t u : d.Stamp) → Narrow t → Narrow u → d.stampValue t ≡ d.stampValue u → (t ≡ u) × (d.time t ≡ d.time u)
+time-form t u p q e = let s = time-same t u p q e in (s, ap (λ (x : d.Stamp). d.time x) s)
+
 -- ---- what follows
 
 -- two values that are read from the same bytes are the same
@@ -242,9 +268,13 @@ round-trip = record {
   client-form = client-form;
   server-form = server-form;
   entry-form = entry-form;
+  body-form = body-form;
+  time-form = time-form;
   client-once = λ a b x y e. same-value (meantClient a) (meantClient b) (sym (client-back a x) ∙ ap clientMessage e ∙ client-back b y);
   server-once = λ a b x y e. same-value (meantServer a) (meantServer b) (sym (server-back a x) ∙ ap serverMessage e ∙ server-back b y);
   entry-once = λ j k v w x y e. sym (entry-back j v (x .0) (x .1) .means) ∙ ap (λ (s : Bytes). m.entry (items s)) e ∙ entry-back k w (y .0) (y .1) .means;
+  body-once = body-once;
+  time-once = time-once;
   body = body-back;
   time-spec = time-back;
   entry = λ key v w. entry-back key v (w .0) (w .1);

@@ -4,6 +4,7 @@ use Prim.Native.Nat.{ℕ, _+_, _-_, _^_, _≤_, _<_}
 use mathlib.Core.Path.{_≡_}
 use mathlib.Core.List.{List, [], _∷_, _++_, map}
 use mathlib.Core.Bool.{Bool, true, false}
+use lib.IntN.{ℤ}
 use lib.ListN.{length}
 use lib.Dec.{leb, eqb}
 use Rattle.base_laws.specs.Base.{pick, part}
@@ -14,9 +15,9 @@ use Rattle.wire_check_field.specs.Check.{checkOf}
 use Rattle.wire_fields.specs.Items as i
 use Rattle.wire_fields.specs.Items.{Item, items}
 use Rattle.wire_check_field.specs.declared.Checked.the-variants as checked
-use Rattle.wire_message.specs.Signed.{int64}
+use Rattle.wire_message.specs.Signed.{int64, int32}
 use Rattle.wire_message.specs.Message as m
-use Rattle.wire_message.specs.Message.{Bytes, clientMember}
+use Rattle.wire_message.specs.Message.{Bytes, Client, clientMember}
 use Rattle.wire.specs.Read.{value, clientMessage, serverMessage}
 use Rattle.write_forms.specs.Pieces.{Piece, number, some, bytes, text, list, run, encodeAll, front}
 use Rattle.write_forms.specs.Draft.{Stamp, stampValue, time, serverHelloPieces, stringListPieces, numberListPieces, EntryDraft, numval, strval, strlistval, numlistval, entryPieces, ClientDraft, accept, reject, exit, restart, alert, io, window, suspend, clientHello, clientNumber, clientPieces, wrapped, writtenClient, ServerDraft, serverHello, commit, note, writtenServer, meantClient, meantServer, meantEntry}
@@ -126,19 +127,22 @@ WritableServer d = ServerParts d × Short (writtenServer d)
 abbrev pub WritableEntry : Bytes → EntryDraft → Type 0
 WritableEntry key v = EntryParts v × Short (encodeAll (entryPieces key v))
 
--- numbers of 32 bits where the field is an int32: document 01's ranges are far below. A wider one is read by its low 32 bits, so
--- that two drafts would mean the same and be written differently.
+-- 64 bits that are an int32's, in two's complement: document 01's ranges lie within. Others are read by their low 32 bits, so that
+-- two drafts would mean the same and be written differently.
+abbrev pub Int32 : ℕ → Type 0
+Int32 v = (v < 2 ^ 64) × (int64 v ≡ int32 v)
+
 abbrev pub Narrow : Stamp → Type 0
-Narrow t = (t .seconds < 2 ^ 64) × (t .nanos < 2 ^ 32)
+Narrow t = (t .seconds < 2 ^ 64) × Int32 (t .nanos)
 
 abbrev pub NarrowClient : ClientDraft → Type 0
 NarrowClient (accept t r e) = Narrow t
 NarrowClient (reject t x r) = Narrow t
-NarrowClient (exit t v c x y) = Narrow t × (v < 2 ^ 32)
+NarrowClient (exit t v c x y) = Narrow t × Int32 v
 NarrowClient (restart x t) = Narrow t
 NarrowClient (alert t x r) = Narrow t
 NarrowClient (io k t d) = Narrow t
-NarrowClient (window t x y) = Narrow t × ((x < 2 ^ 32) × (y < 2 ^ 32))
+NarrowClient (window t x y) = Narrow t × (Int32 x × Int32 y)
 NarrowClient (suspend t d) = Narrow t
 NarrowClient (clientHello d) = Unit
 
@@ -158,6 +162,76 @@ lentRun (io k t d) = []
 lentRun (window t x y) = []
 lentRun (suspend t d) = []
 lentRun (clientHello d) = []
+
+-- every message by itself, as a writer is given it: a member of a ClientMessage, and the others
+pub data BodyDraft : Type 0 where
+  memberBody : ClientDraft → BodyDraft
+  helloBody : Bytes → Bytes → List Bytes → Bool → BodyDraft
+  timeBody : Stamp → BodyDraft
+  entryBody : Bytes → EntryDraft → BodyDraft
+  stringsBody : List Bytes → BodyDraft
+  numbersBody : List ℕ → BodyDraft
+
+-- and its value
+pub data Body : Type 0 where
+  memberValue : Client → Body
+  helloValue : m.ServerHello → Body
+  timeValue : m.TimeSpec → Body
+  entryValue : m.Entry → Body
+  stringsValue : List Bytes → Body
+  numbersValue : List ℤ → Body
+
+unfoldable pub writtenBody : BodyDraft → Bytes
+writtenBody (memberBody d) = encodeAll (clientPieces d)
+writtenBody (helloBody id redirect servers sub) = encodeAll (serverHelloPieces id redirect servers sub)
+writtenBody (timeBody t) = time t
+writtenBody (entryBody key v) = encodeAll (entryPieces key v)
+writtenBody (stringsBody ds) = encodeAll (stringListPieces ds)
+writtenBody (numbersBody vs) = encodeAll (numberListPieces vs)
+
+unfoldable pub meantBody : BodyDraft → Body
+meantBody (memberBody d) = memberValue (meantClient d)
+meantBody (helloBody id redirect servers sub) = helloValue (record { serverId = id; redirect = redirect; servers = servers; subcommands = sub })
+meantBody (timeBody t) = timeValue (stampValue t)
+meantBody (entryBody key v) = entryValue (meantEntry key v)
+meantBody (stringsBody ds) = stringsValue ds
+meantBody (numbersBody vs) = numbersValue (map int64 vs)
+
+-- the reader of such a message
+unfoldable pub readBody : BodyDraft → Bytes → Body
+readBody (memberBody d) s = memberValue (clientMember (clientNumber d) (items s))
+readBody (helloBody id redirect servers sub) s = helloValue (m.serverHello (items s))
+readBody (timeBody t) s = timeValue (m.timeSpec (items s))
+readBody (entryBody key v) s = entryValue (m.entry (items s))
+readBody (stringsBody ds) s = stringsValue (m.stringList (items s))
+readBody (numbersBody vs) s = numbersValue (m.numberList (items s))
+
+abbrev pub BodyParts : BodyDraft → Type 0
+BodyParts (memberBody d) = ClientParts d
+BodyParts (helloBody id redirect servers sub) = Unit
+BodyParts (timeBody t) = Stamped t
+BodyParts (entryBody key v) = EntryParts v
+BodyParts (stringsBody ds) = Unit
+BodyParts (numbersBody vs) = AllFit vs
+
+abbrev pub WritableBody : BodyDraft → Type 0
+WritableBody b = BodyParts b × Short (writtenBody b)
+
+abbrev pub NarrowBody : BodyDraft → Type 0
+NarrowBody (memberBody d) = NarrowClient d
+NarrowBody (helloBody id redirect servers sub) = Unit
+NarrowBody (timeBody t) = Narrow t
+NarrowBody (entryBody key v) = EntryParts v
+NarrowBody (stringsBody ds) = Unit
+NarrowBody (numbersBody vs) = AllFit vs
+
+unfoldable pub bodyRun : BodyDraft → Bytes
+bodyRun (memberBody d) = lentRun d
+bodyRun (helloBody id redirect servers sub) = []
+bodyRun (timeBody t) = []
+bodyRun (entryBody key v) = []
+bodyRun (stringsBody ds) = []
+bodyRun (numbersBody vs) = []
 
 -- a key and a value, as an entry is written from them
 pub record Keyed : Type 0 where
@@ -196,6 +270,10 @@ pub record RoundTrip : Type 0 where
       → writtenServer c ≡ writtenServer d
   pub entry-form : (j k : Bytes) (v w : EntryDraft) → EntryParts v → EntryParts w → meantEntry j v ≡ meantEntry k w
       → encodeAll (entryPieces j v) ≡ encodeAll (entryPieces k w)
+  -- the same of every message by itself, and of a TimeSpec: its seconds and nanoseconds are then the same too
+  pub body-form : (b c : BodyDraft) → NarrowBody b → NarrowBody c → bodyRun b ≡ bodyRun c → meantBody b ≡ meantBody c
+      → writtenBody b ≡ writtenBody c
+  pub time-form : (t u : Stamp) → Narrow t → Narrow u → stampValue t ≡ stampValue u → (t ≡ u) × (time t ≡ time u)
   -- and drafts that are written alike mean the same
   pub client-once : (c d : ClientDraft) → WritableClient c → WritableClient d → writtenClient c ≡ writtenClient d
       → meantClient c ≡ meantClient d
@@ -203,6 +281,10 @@ pub record RoundTrip : Type 0 where
       → meantServer c ≡ meantServer d
   pub entry-once : (j k : Bytes) (v w : EntryDraft) → WritableEntry j v → WritableEntry k w
       → encodeAll (entryPieces j v) ≡ encodeAll (entryPieces k w) → meantEntry j v ≡ meantEntry k w
+  -- of messages by themselves, those that one reader reads: a reject and an alert may have the same bytes
+  pub body-once : (b c : BodyDraft) → WritableBody b → WritableBody c → ((s : Bytes) → readBody b s ≡ readBody c s)
+      → writtenBody b ≡ writtenBody c → meantBody b ≡ meantBody c
+  pub time-once : (t u : Stamp) → Narrow t → Narrow u → time t ≡ time u → t ≡ u
   -- the message of a ClientMessage's member by itself
   pub body : (d : ClientDraft) → ClientParts d → Short (encodeAll (clientPieces d))
       → ReadsAs (kindOf ClientMessage (clientNumber d) - message 0) (encodeAll (clientPieces d)) (clientMember (clientNumber d)) (meantClient d)

@@ -1,5 +1,4 @@
 // The writers of lists by themselves: a StringList and a NumberList. How a writer is called and what it returns stands in `write_client`.
-use write_lists::ends_fit;
 use write_message::form::listed;
 use write_message::outcome::Wrote;
 use write_message::write::write_message;
@@ -16,11 +15,10 @@ pub fn write_string_list(joined: &[u8], ends: &[usize], framed: bool, out: &mut 
     ensures answer { λ r. ⌜ r ≡ wrote 0 (endsFit (now (joined .entry)) (now (ends .entry))) framed (wrapped 0 (stringListPieces (cutAt (now (joined .entry)) 0 (now (ends .entry))))) (length (now (out .entry))) ⌝ }
     ensures buffer { λ r. ⌜ now (out .exit) ≡ buffer 0 (endsFit (now (joined .entry)) (now (ends .entry))) framed (wrapped 0 (stringListPieces (cutAt (now (joined .entry)) 0 (now (ends .entry))))) (now (out .entry)) ⌝ }
 {
-    let fits = ends_fit(joined.len(), ends);
     let p = listed(1, 0, 0);
     write_message(
         0,
-        fits,
+        true,
         0,
         p,
         &[],

@@ -100,6 +100,10 @@ same-outcome {framed = framed} {m} {out} h r' false m' e f g = (
   rw (e, f) at (h .leaves) ∙ unfit-buffer r' framed m m' out,
 )
 
+pub same-range : {r : ℕ} {fits fits' framed : Bool} {m out : List ℕ} {w : Wrote} {out' : List ℕ} → WriteOutcome r fits framed m out w out'
+    → fits ≡ fits' → WriteOutcome r fits' framed m out w out'
+same-range h e = rw e at h
+
 in-range : (r : ℕ) (fits framed : Bool) (m : List ℕ) (room : ℕ) → r ≡ 0 → fits ≡ true
     → refusal r fits framed m room ≡ roomRefusal framed (length m) room
 unfolding refusal

@@ -4,7 +4,7 @@ use Prim.Native.Nat.{ℕ}
 use mathlib.Core.List.{List}
 use mathlib.Core.Bool.{Bool, true, not}
 use lib.ListN.{length}
-use lib.Dec.{leb, eqb}
+use lib.Dec.{ltb, leb, eqb}
 use Rattle.base_laws.specs.Base.{pick, both}
 use Rattle.wire_message.specs.Message.{Bytes}
 use Rattle.write_forms.specs.Draft.{Stamp, badEnds}
@@ -64,9 +64,14 @@ suspendFits f t signal = both (memberIn 12 12 f) (both (momentFits t) (sized 1 1
 abbrev pub serverHelloFits : ℕ → Bytes → List ℕ → Bool
 serverHelloFits f joined ends = both (memberIn 1 1 f) (endsFit joined ends)
 
--- a TimeSpec by itself has no range, as commit_point it has
+-- Are 64 bits those of an int32, in two's complement: below 2^31, or from 2^64 - 2^31 on. Others are read by their low 32 bits, as
+-- another number. Document 01: what is written "reads back as the same values. Each message has one written form".
+unfoldable pub int32Fits : ℕ → Bool
+int32Fits n = pick (ltb n 2147483648) true (leb 18446744071562067968 n)
+
+-- a TimeSpec by itself is any int64 and any int32, as commit_point it has its range
 unfoldable pub timeFits : ℕ → Stamp → Bool
-timeFits f t = pick (eqb f 0) true (both (eqb f 2) (momentFits t))
+timeFits f t = pick (eqb f 0) (int32Fits (t .nanos)) (both (eqb f 2) (momentFits t))
 
 -- log_id, error, abort
 abbrev pub noteFits : ℕ → Bool

@@ -1,5 +1,4 @@
 // The writers of a ServerMessage's members, as in `write_client`.
-use write_lists::ends_fit;
 use write_message::fits::both;
 use write_message::fits::flag;
 use write_message::fits::member_in;
@@ -16,8 +15,13 @@ ghost use Rattle.write_forms.specs.Pieces.{bytes, encodeAll};
 ghost use Rattle.write_forms.specs.Draft.{timePieces, serverHelloPieces, cutAt, wrapped};
 ghost use Rattle.write_forms.specs.Outcome.{buffer};
 ghost use Rattle.write_pieces.specs.Parts.{stamp};
-ghost use Rattle.write_message.specs.Fits.{serverHelloFits, timeFits, noteFits};
+ghost use Rattle.write_message.specs.Fits.{serverHelloFits, int32Fits, timeFits, noteFits};
 ghost use Rattle.write_message.specs.Wrote.{wrote};
+
+// The first number above an int32, and the 64 bits of the least int32.
+const INT32_END: u64 = 2147483648;
+
+const INT32_LEAST: u64 = 18446744071562067968;
 
 // A ServerHello, member 1; its servers are lent as joined bytes and ends.
 pub fn write_server_hello(
@@ -33,7 +37,7 @@ pub fn write_server_hello(
     ensures answer { λ r. ⌜ r ≡ wrote 0 (serverHelloFits member (now (joined .entry)) (now (ends .entry))) framed (wrapped member (serverHelloPieces (now («server_id» .entry)) (now (redirect .entry)) (cutAt (now (joined .entry)) 0 (now (ends .entry))) subcommands)) (length (now (out .entry))) ⌝ }
     ensures buffer { λ r. ⌜ now (out .exit) ≡ buffer 0 (serverHelloFits member (now (joined .entry)) (now (ends .entry))) framed (wrapped member (serverHelloPieces (now («server_id» .entry)) (now (redirect .entry)) (cutAt (now (joined .entry)) 0 (now (ends .entry))) subcommands)) (now (out .entry)) ⌝ }
 {
-    let fits = both(member_in(1, 1, member), ends_fit(joined.len(), ends));
+    let fits = member_in(1, 1, member);
     let p = listed(3, 0, flag(subcommands));
     write_message(
         0,
@@ -53,12 +57,22 @@ pub fn write_server_hello(
     )
 }
 
-// A TimeSpec by itself has no range.
+// Are 64 bits those of an int32, in two's complement.
+fn int32_fits(n: u64) -> bool
+    ensures { λ r. ⌜ r ≡ int32Fits n ⌝ }
+{
+    if n < INT32_END {
+        return true;
+    }
+    INT32_LEAST <= n
+}
+
+// A TimeSpec by itself is any int64 and any int32.
 fn time_fits(member: u64, seconds: u64, nanos: u64) -> bool
     ensures { λ r. ⌜ r ≡ timeFits member (stamp seconds nanos) ⌝ }
 {
     if member == 0 {
-        return true;
+        return int32_fits(nanos);
     }
     both(member == 2, moment_fits(seconds, nanos))
 }

@@ -1,6 +1,6 @@
 -- Outcomes.same-outcome: the range is entry_fits', the bytes (same-wrapped) are the entry's; no ends are never bad.
 use Rattle.write_message.proofs.Outcomes.{same-outcome, same-wrapped}
-use Rattle.write_message.proofs.Members.{entry-small}
+use Rattle.write_message.proofs.Members.{entry-small, unlisted-fits}
 use Rattle.write_pieces.specs.Parts.{cover, around}
 use Rattle.write_forms.specs.Draft.{valuePiece, cutAt, badEnds}
 use Rattle.write_forms.specs.Pieces.{encode, elements}
@@ -9,20 +9,15 @@ use borrow.Author.Needs.{needs}
 use Rattle.write_entry.proofs.write_entry_numbers.Statement.{statement}
 use Rattle.write_entry.proofs.write_entry_numbers.Tie as tie
 
-write-message-requires : tie.Need-write-message-requires
-unfolding badEnds
-write-message-requires c κs =
-    let at-entry-fits = c .before .before .before .before .before .before .before .before in
-    let at-start = at-entry-fits .before .before .before .before in
-    (λ h. entry-small _ (at-start .args .key .now) (at-entry-fits .entry-fits .ensures) h, λ h. refl)
-
 returns : tie.Need-returns
 unfolding encode around cover elements cutAt valuePiece
 returns c =
     let at-write-message = c .before .before in
     let at-listed = at-write-message .before .before .before .before .before .before .before .before in
     let at-entry-fits = at-listed .before in
-    same-outcome (at-write-message .write-message .ensures) _ _ _ refl (at-entry-fits .entry-fits .ensures)
+    let key = at-entry-fits .before .before .before .before .args .key .now in
+    same-outcome (at-write-message .write-message .ensures) _ _ _ refl
+    (unlisted-fits _ (λ h. entry-small _ key (at-entry-fits .entry-fits .ensures) h) (at-entry-fits .entry-fits .ensures))
     (λ h. rw (at-listed .listed .ensures) (same-wrapped _ _ _ refl))
 
 pub write-entry-numbers-spec : {M : Type 1} → statement M
@@ -37,6 +32,6 @@ write-entry-numbers-spec =
     (λ c. search needs)
     (λ c. search needs)
     (λ c. search needs)
-    write-message-requires
+    (λ c κs. search needs)
     (λ c. search needs)
     returns)

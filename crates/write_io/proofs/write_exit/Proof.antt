@@ -1,7 +1,7 @@
 -- Outcomes.same-outcome: the range (Members.both-same) and the bytes (same-wrapped) are the exit's; Members.member-small bounds the member.
 use lib.Dec.{leb}
 use Rattle.write_forms.specs.Draft.{flag}
-use Rattle.write_message.proofs.Members.{member-small, both-same}
+use Rattle.write_message.proofs.Members.{member-small, both-same, plain-fits}
 use Rattle.write_message.proofs.Outcomes.{same-outcome, same-wrapped}
 use Rattle.write_pieces.specs.Parts.{cover, around}
 use Rattle.write_forms.specs.Pieces.{encode}
@@ -11,12 +11,6 @@ use mathlib.Core.Path.{refl, sym, _∙_}
 use borrow.Author.Needs.{needs}
 use Rattle.write_io.proofs.write_exit.Statement.{statement}
 use Rattle.write_io.proofs.write_exit.Tie as tie
-
-write-plain-requires : tie.Need-write-plain-requires
-write-plain-requires c κs =
-    let at-both3 = c .before .before .before .before .before .before in
-    let at-member-in = at-both3 .before .before .before in
-    λ h. member-small 3 3 _ (omega arith) (at-member-in .member-in .ensures) (both-true _ _ (sym (at-both3 .both3 .ensures) ∙ h) .0)
 
 returns : tie.Need-returns
 unfolding encode around cover
@@ -32,9 +26,11 @@ returns c =
     let at-sized = at-both .before in
     let at-start = at-sized .before .before .before .before in
     same-outcome (at-write-plain .write-plain .ensures) _ _ _ refl
+    (plain-fits _
+    (λ h. member-small 3 3 _ (omega arith) (at-member-in .member-in .ensures) (both-true _ _ (sym (at-both3 .both3 .ensures) ∙ h) .0))
     (both-same (at-both3 .both3 .ensures) (at-member-in .member-in .ensures)
     (both-same (at-both2 .both2 .ensures) (at-moment-fits .moment-fits .ensures)
-    (both-same {a = leb (at-start .args .exit-value) 255} (at-both .both .ensures) refl (at-sized .sized .ensures))))
+    (both-same {a = leb (at-start .args .exit-value) 255} (at-both .both .ensures) refl (at-sized .sized .ensures)))))
     (λ h. rw (at-timed .timed .ensures, at-flag .flag .ensures) (same-wrapped _ _ _ refl))
 
 pub write-exit-spec : {M : Type 1} → statement M
@@ -52,6 +48,6 @@ write-exit-spec =
     (λ c. search needs)
     (λ c. search needs)
     (λ c. search needs)
-    write-plain-requires
+    (λ c κs. search needs)
     (λ c. search needs)
     returns)

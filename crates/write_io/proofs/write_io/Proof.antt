@@ -1,6 +1,6 @@
 -- Outcomes.same-outcome: the range (Members.both-same) and the bytes (same-wrapped) are the buffer's; Members.member-small bounds the member.
 use Rattle.write_message.proofs.Outcomes.{same-outcome, same-wrapped}
-use Rattle.write_message.proofs.Members.{member-small, both-same}
+use Rattle.write_message.proofs.Members.{member-small, both-same, plain-fits}
 use Rattle.write_pieces.specs.Parts.{cover, around}
 use Rattle.write_forms.specs.Pieces.{encode}
 use Rattle.base_laws.proofs.Order.{both-true}
@@ -9,12 +9,6 @@ use mathlib.Core.Path.{refl, sym, _∙_}
 use borrow.Author.Needs.{needs}
 use Rattle.write_io.proofs.write_io.Statement.{statement}
 use Rattle.write_io.proofs.write_io.Tie as tie
-
-write-plain-requires : tie.Need-write-plain-requires
-write-plain-requires c κs =
-    let at-both = c .before .before .before .before .before .before in
-    let at-member-in = at-both .before .before in
-    λ h. member-small 6 10 _ (omega arith) (at-member-in .member-in .ensures) (both-true _ _ (sym (at-both .both .ensures) ∙ h) .0)
 
 returns : tie.Need-returns
 unfolding encode around cover
@@ -25,7 +19,9 @@ returns c =
     let at-moment-fits = at-both .before in
     let at-member-in = at-moment-fits .before in
     same-outcome (at-write-plain .write-plain .ensures) _ _ _ refl
-    (both-same (at-both .both .ensures) (at-member-in .member-in .ensures) (at-moment-fits .moment-fits .ensures))
+    (plain-fits _
+    (λ h. member-small 6 10 _ (omega arith) (at-member-in .member-in .ensures) (both-true _ _ (sym (at-both .both .ensures) ∙ h) .0))
+    (both-same (at-both .both .ensures) (at-member-in .member-in .ensures) (at-moment-fits .moment-fits .ensures)))
     (λ h. rw (at-timed .timed .ensures) (same-wrapped _ _ _ refl))
 
 pub write-io-spec : {M : Type 1} → statement M
@@ -40,6 +36,6 @@ write-io-spec =
     (λ c. search needs)
     (λ c. search needs)
     (λ c. search needs)
-    write-plain-requires
+    (λ c κs. search needs)
     (λ c. search needs)
     returns)

@@ -1,21 +1,17 @@
 -- Outcomes.same-outcome: the bytes (same-wrapped) are the list's; no ends are never bad.
 use Rattle.write_message.proofs.Outcomes.{same-outcome, same-wrapped}
 use Rattle.write_pieces.specs.Parts.{cover, around}
+use Rattle.write_message.specs.Fits.{endsFit}
 use Rattle.write_forms.specs.Draft.{cutAt, badEnds}
 use Rattle.write_forms.specs.Pieces.{encode, elements}
 use mathlib.Core.List.{append-nil}
-use native.Mathlib.Omega.{arith}
 use mathlib.Core.Path.{refl}
 use borrow.Author.Needs.{needs}
 use Rattle.write_list.proofs.write_number_list.Statement.{statement}
 use Rattle.write_list.proofs.write_number_list.Tie as tie
 
-write-message-requires : tie.Need-write-message-requires
-unfolding badEnds
-write-message-requires c κs = (λ h. omega arith, λ h. refl)
-
 returns : tie.Need-returns
-unfolding encode around cover elements cutAt
+unfolding encode around cover elements cutAt endsFit badEnds
 returns c =
     let at-write-message = c .before .before in
     let at-listed = at-write-message .before .before .before .before .before .before .before .before .before in
@@ -34,6 +30,6 @@ write-number-list-spec =
     (λ c. search needs)
     (λ c. search needs)
     (λ c. search needs)
-    write-message-requires
+    (λ c κs. search needs)
     (λ c. search needs)
     returns)

@@ -1,6 +1,5 @@
--- Both cases are the test of `timeFits`, with moment_fits' contract put in for its test.
-use borrow.Author.Tests.{ne-eqb}
-use Rattle.base_laws.proofs.Tests.{tests}
+-- Both cases are the test of `timeFits`, with int32_fits' and moment_fits' contracts put in for their tests.
+use borrow.Author.Tests.{eq-eqb, ne-eqb}
 use Rattle.write_message.specs.Fits.{timeFits}
 use borrow.Author.Needs.{needs}
 use Rattle.write_server.proofs.time_fits.Statement.{statement}
@@ -8,7 +7,7 @@ use Rattle.write_server.proofs.time_fits.Tie as tie
 
 returns : tie.Need-returns
 unfolding timeFits
-returns c = search tests
+returns c = rw (eq-eqb (c .before .before .args .member) 0 (c .before .if1 .taken)) (c .int32-fits .ensures)
 
 returns-2 : tie.Need-returns-2
 unfolding timeFits
@@ -19,4 +18,4 @@ returns-2 c =
     rw (ne-eqb (at-start .args .member) 0 (at-if1 .if1 .left), ← at-moment-fits .moment-fits .ensures) (c .both .ensures)
 
 pub time-fits-spec : {M : Type 1} → statement M
-time-fits-spec = tie.close (tie.spec returns (λ c κs. search needs) (λ c κs. search needs) returns-2)
+time-fits-spec = tie.close (tie.spec (λ c κs. search needs) returns (λ c κs. search needs) (λ c κs. search needs) returns-2)

@@ -1,6 +1,6 @@
 -- Outcomes.same-outcome: a note is the member's bytes themselves, Outcomes.same-note, for the members that Members.note-member tells.
 use Rattle.write_message.proofs.Outcomes.{same-outcome, same-note}
-use Rattle.write_message.proofs.Members.{note-member}
+use Rattle.write_message.proofs.Members.{note-member, plain-fits}
 use Rattle.write_pieces.specs.Parts.{cover, around}
 use Rattle.write_forms.specs.Pieces.{encode}
 use native.Mathlib.Omega.{arith}
@@ -9,12 +9,6 @@ use borrow.Author.Needs.{needs}
 use Rattle.write_server.proofs.write_note.Statement.{statement}
 use Rattle.write_server.proofs.write_note.Tie as tie
 
-write-plain-requires : tie.Need-write-plain-requires
-write-plain-requires c κs =
-    let at-both = c .before .before .before .before .before .before in
-    let at-start = at-both .before .before .before in
-    λ h. let m = note-member (at-start .args .member) (at-both .both .ensures) h in omega arith
-
 returns : tie.Need-returns
 unfolding encode around cover
 returns c =
@@ -22,7 +16,8 @@ returns c =
     let at-listed = at-write-plain .before .before .before .before .before .before in
     let at-both = at-listed .before in
     let a = at-both .before .before .before .args in
-    same-outcome (at-write-plain .write-plain .ensures) _ _ _ refl (at-both .both .ensures)
+    same-outcome (at-write-plain .write-plain .ensures) _ _ _ refl
+    (plain-fits (a .member) (λ h. let m = note-member (a .member) (at-both .both .ensures) h in omega arith) (at-both .both .ensures))
     (λ h. let m = note-member (a .member) refl h in rw (at-listed .listed .ensures) (same-note (a .member) _ (a .note .now) (λ z. omega arith) refl))
 
 pub write-note-spec : {M : Type 1} → statement M
@@ -35,6 +30,6 @@ write-note-spec =
     (λ c. search needs)
     (λ c. search needs)
     (λ c. search needs)
-    write-plain-requires
+    (λ c κs. search needs)
     (λ c. search needs)
     returns)
