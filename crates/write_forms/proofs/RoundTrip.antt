@@ -22,7 +22,7 @@ use Rattle.write_forms.specs.Pieces.{Piece, bytes, head, encode, encodeA
 use Rattle.write_forms.specs.Draft as d
 use Rattle.write_forms.specs.Draft.{ClientDraft, ServerDraft, EntryDraft, clientNumber, clientPieces, wrapped, writtenClient, writtenServer, meantClient, meantServer}
 use Rattle.write_forms.specs.Run.{runAt, runRefusal}
-use Rattle.write_forms.specs.RoundTrip.{Keyed, AllKeyed, writtenRun, AllWritable, Held, Numbered, Short, ReadsAs, EntryParts, ClientParts, Stamped, WritableClient, WritableServer, Narrow, BodyDraft, memberBody, helloBody, timeBody, entryBody, stringsBody, numbersBody, Body, memberValue, helloValue, timeValue, entryValue, stringsValue, numbersValue, writtenBody, meantBody, readBody, WritableBody, RoundTrip}
+use Rattle.write_forms.specs.RoundTrip.{Keyed, AllKeyed, writtenRun, AllWritable, Held, Numbered, Short, ReadsAs, EntryParts, ClientParts, Stamped, WritableClient, WritableServer, Narrow, BodyDraft, memberBody, helloBody, timeBody, entryBody, stringsBody, numbersBody, memberValue, helloValue, timeValue, entryValue, stringsValue, numbersValue, writtenBody, meantBody, readBody, WritableBody, RoundTrip}
 use Rattle.write_forms.proofs.Pieces.{fields-back, pieces-pass}
 use Rattle.write_forms.proofs.Values.{last-back, every-back}
 use Rattle.write_forms.proofs.OneForm.{client-form, server-form, entry-form, body-form, time-same}

@@ -2,7 +2,7 @@
 use Rattle.write_message.proofs.Outcomes.{same-outcome, same-wrapped}
 use Rattle.write_message.proofs.Members.{entry-small, unlisted-fits}
 use Rattle.write_pieces.specs.Parts.{cover, around}
-use Rattle.write_forms.specs.Draft.{valuePiece, cutAt, badEnds}
+use Rattle.write_forms.specs.Draft.{valuePiece, cutAt}
 use Rattle.write_forms.specs.Pieces.{encode, elements}
 use mathlib.Core.Path.{refl}
 use borrow.Author.Needs.{needs}
