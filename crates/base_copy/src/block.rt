@@ -47,7 +47,7 @@ fn store_half(area: &mut [u8], o: usize, h: Half)
     area[o + 7] = h.b7;
 }
 
-// 16 bytes: all read, then all written, so that they are moved at once.
+// 16 bytes: all read, then all written, so that they are moved at once. Inner: `copy_into` shows what it requires.
 pub fn copy_block(area: &mut [u8], o: usize, bytes: &[u8], j: usize)
     requires { ⌜ (o + 16 ≤ length (now area)) × (j + 16 ≤ length (now bytes)) ⌝ }
     ensures { λ _. ⌜ now (area .exit) ≡ blockStored (now (area .entry)) o (now (bytes .entry)) j 15 ⌝ }

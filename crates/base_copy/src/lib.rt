@@ -135,8 +135,8 @@ pub fn copy_into(area: &mut [u8], at: usize, bytes: &[u8]) -> bool
     true
 }
 
-// The same where there is room, as callers put bytes one after the other: returns the place after them. It is for them: a host copies by
-// `copy_into`, which requires nothing.
+// The same where there is room, as callers put bytes one after the other: returns the place after them. Inner: it is for them, who show the
+// room; a host copies by `copy_into`, which requires nothing.
 pub fn put_raw(out: &mut [u8], at: usize, d: &[u8]) -> usize
     requires { ⌜ at + length (now d) ≤ length (now out) ⌝ }
     ensures { λ r. ⌜ Put (now (out .entry)) at (now (d .entry)) (now (out .exit)) r ⌝ }

@@ -21,7 +21,7 @@ fn turned(v: u64) -> u64
     (a * 65536 + b) * 4294967296 + (c * 65536 + d)
 }
 
-// Lays a number into a buffer, eight bytes, most significant first. This is for the crates above, as the stores of `write_pieces` are:
+// Lays a number into a buffer, eight bytes, most significant first. Inner: it is for the crates above, as the stores of `write_pieces` are:
 // they show that there is room for it.
 pub fn put(out: &mut [u8], at: usize, v: u64)
     requires { ⌜ at + 8 ≤ length (now out) ⌝ }

@@ -1,5 +1,5 @@
-// The names in a line: those of a ClientMessage's members and of a session's states. As in `numbers`, `put_..` requires the room and returns
-// the place after what it put.
+// The names in a line: those of a ClientMessage's members and of a session's states. Inner, as those of `numbers`: `put_..` requires the room and
+// returns the place after what it put.
 use base_copy::put_raw;
 use session_turn::State;
 use wire_fields::Last;

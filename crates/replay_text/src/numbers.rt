@@ -1,4 +1,4 @@
-// The numbers in a line, in decimal. These functions are for the lines above, which
+// The numbers in a line, in decimal. These functions are inner: they are for the lines above, which
 // show that there is room before they put anything: `put_..` requires it, and returns the place after what it put.
 use base_copy::put_raw;
 ghost use mathlib.Core.Path.{_≡_};

@@ -1,4 +1,4 @@
-// Lists of strings, lent as joined bytes and ends, and packed numbers.
+// Lists of strings, lent as joined bytes and ends, and packed numbers. Inner, as the functions of `write_pieces` are, but for `ends_fit`.
 use base_copy::put_raw;
 use write_pieces::number::len_varint;
 use write_pieces::number::put_varint;

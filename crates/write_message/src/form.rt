@@ -1,5 +1,5 @@
 // The one form from which every message is written: its fields at each number, in rising number. What a message does not have
-// is left out by its value: a number that is 0, no bytes, the field number 0.
+// is left out by its value: a number that is 0, no bytes, the field number 0. Lengths and puts are inner: `crate::write` shows what they require.
 use base_copy::put_raw;
 use write_lists::len_list;
 use write_lists::len_numbers;
