@@ -15,7 +15,6 @@ ghost use lib.ListN.{length};
 ghost use lib.Dec.{eqb};
 ghost use Rattle.base_laws.specs.Base.{pick};
 ghost use Rattle.session.specs.Step as st;
-ghost use Rattle.session_turn.specs.declared.State.the-variants.{Closed};
 ghost use Rattle.session_bytes.specs.Saved.{sessionOf, kept};
 ghost use Rattle.c_session.specs.Session.{hasPoint, pointNumber, messageAnswer, messageSlice, messageArea, messageOut, tickNumber, fileNumber};
 
@@ -49,13 +48,6 @@ fn point_number(p: Point) -> u64
     }
 }
 
-// A message whose answer has no room closes its session.
-fn close(slice: &mut [u8])
-    ensures { λ r. ⌜ now (slice .exit) ≡ kept (st.inState (sessionOf (now (slice .entry))) Closed) (now (slice .entry)) ⌝ }
-{
-    save(slice, refuse(load(slice), 0, 12, 0).session);
-}
-
 // One message in the session that the slice keeps.
 #[no_mangle]
 pub extern "C" fn sudolog_session_message(
@@ -70,11 +62,12 @@ pub extern "C" fn sudolog_session_message(
     ensures area { λ r. ⌜ now (area .exit) ≡ messageArea (now (slice .entry)) (now (s .entry)) (now (area .entry)) used (now (out .entry)) ⌝ }
     ensures out { λ r. ⌜ now (out .exit) ≡ messageOut (now (slice .entry)) (now (s .entry)) (now (area .entry)) used (now (out .entry)) ⌝ }
 {
+    let se = load(slice);
     if out.len() < 40 {
-        close(slice);
+        save(slice, refuse(se, used, 12, 0).session);
         return 12;
     }
-    let a = message(load(slice), s, area, used);
+    let a = message(se, s, area, used);
     let session = a.session;
     let point = a.point;
     let state = session.state;
