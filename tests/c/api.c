@@ -6,6 +6,7 @@
  * message's reader, lists, NULL in the place of a slice, refusals and what they leave untouched; then the same of
  * writing.
  */
+#define _DEFAULT_SOURCE
 #include "check.h"
 #include "data.h"
 #include "sudolog.h"
@@ -13,6 +14,8 @@
 #include <limits.h>
 #include <stdlib.h>
 #include <string.h>
+#include <sys/mman.h>
+#include <unistd.h>
 
 struct slice {
     const uint8_t *m;
@@ -494,6 +497,69 @@ static void longer_forms_are_read(void)
     struct slice in = BYTES("\x92\x80\x80\x80\x80\x80\x80\x80\x80\x00\x81\x80\x00x\x8A\x00\x83\x00\x08\x81\x00");
     CHECK(sudolog_read_io_buffer(in.m, in.n, &buffer) == 0);
     CHECK(is_time(buffer.delay, 1, 0) && is_text(in, buffer.data, "x"));
+}
+
+/* ---- varints of one byte ----
+ *
+ * Each message stands at the end of a page, and the one behind it can't be read. */
+
+static struct slice at_the_end_of_a_page(struct slice s)
+{
+    static uint8_t *end;
+    size_t page = (size_t)sysconf(_SC_PAGESIZE);
+    struct slice moved = s;
+    if (end == NULL) {
+        uint8_t *pages = (uint8_t *)mmap(NULL, 2 * page, PROT_READ | PROT_WRITE, MAP_PRIVATE | MAP_ANONYMOUS, -1, 0);
+        if (pages == MAP_FAILED || mprotect(pages + page, page, PROT_NONE) != 0) {
+            perror("api");
+            exit(1);
+        }
+        end = pages + page;
+    }
+    moved.m = (const uint8_t *)memcpy(end - s.n, s.m, s.n);
+    return moved;
+}
+
+/* A TimeSpec's seconds: what reading it gives, and the number. */
+static void seconds_of(struct slice message, int refusal, uint64_t seconds)
+{
+    struct slice in = at_the_end_of_a_page(message);
+    CHECK(sudolog_read(SUDOLOG_TIME_SPEC, in.m, in.n) == refusal);
+    CHECK(sudolog_number(1, in.m, in.n) == seconds);
+}
+
+/* An I/O buffer's data. */
+static void data_of(struct slice message, int refusal, size_t offset, size_t length)
+{
+    struct sudolog_io_buffer io;
+    struct slice in = at_the_end_of_a_page(message);
+    CHECK(sudolog_read_io_buffer(in.m, in.n, &io) == refusal);
+    CHECK(refusal != 0 || (io.data.offset == offset && io.data.length == length));
+}
+
+static void one_byte_varints(void)
+{
+    uint8_t of_127[2 + 127] = { 0x12, 0x7F }, of_128[3 + 128] = { 0x12, 0x80, 0x01 };
+    seconds_of(BYTES("\x08\x00"), 0, 0);
+    seconds_of(BYTES("\x08\x7F"), 0, 127);
+    seconds_of(BYTES("\x08\x80"), 2, 0);
+    seconds_of(BYTES("\x08\x80\x01"), 0, 128);
+    seconds_of(BYTES("\x08\x80\x00"), 0, 0);
+    seconds_of(BYTES("\x08\x05\x80"), 2, 5);
+    seconds_of(BYTES("\x08"), 2, 0);
+    seconds_of(BYTES(""), 0, 0);
+    seconds_of(BYTES("\x08" MINUS_ONE), 0, UINT64_MAX);
+    seconds_of(BYTES("\x08\xFF\xFF\xFF\xFF\xFF\xFF\xFF\xFF\xFF\x02"), 2, 0);
+    seconds_of(BYTES("\x08\xFF\x7F"), 0, 16383);
+    data_of(BYTES("\x12\x00"), 0, 2, 0);
+    data_of(BYTES("\x12\x01x"), 0, 2, 1);
+    data_of(BYTES("\x12\x01"), 3, 0, 0);
+    data_of(BYTES("\x12\x80"), 2, 0, 0);
+    data_of(BYTES("\x12\x80\x00"), 0, 3, 0);
+    data_of(BYTES("\x12"), 2, 0, 0);
+    data_of(slice_of((const char *)of_127, sizeof of_127), 0, 2, 127);
+    data_of(slice_of((const char *)of_127, sizeof of_127 - 1), 3, 0, 0);
+    data_of(slice_of((const char *)of_128, sizeof of_128), 0, 3, 128);
 }
 
 /* ---- message numbers without a message ---- */
@@ -1506,6 +1572,7 @@ int main(void)
     scan_finds_delay_and_data();
     last_one_counts();
     longer_forms_are_read();
+    one_byte_varints();
     numbers_above_the_messages();
     empty_messages();
     null_is_empty();

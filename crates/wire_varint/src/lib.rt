@@ -13,7 +13,7 @@ pub enum Varint {
 }
 
 // The varint at a place, byte by byte: the value so far, what the next byte counts, and how many bytes may follow it.
-pub fn varint_at(s: &[u8], from: usize) -> Varint
+fn varint_slow(s: &[u8], from: usize) -> Varint
     ensures { λ r. ⌜ r ≡ varintAt (now (s .entry)) from ⌝ }
 {
     let mut at = from;
@@ -43,4 +43,20 @@ pub fn varint_at(s: &[u8], from: usize) -> Varint
         at += 1;
     }
     Varint::PastEnd
+}
+
+// The varint at a place. Most are one byte, which has a fast path.
+pub fn varint_at(s: &[u8], from: usize) -> Varint
+    ensures { λ r. ⌜ r ≡ varintAt (now (s .entry)) from ⌝ }
+{
+    if from < s.len() {
+        let first = wide(s[from]);
+        if first < 128 {
+            return Varint::Value {
+                value: first,
+                next: from + 1,
+            };
+        }
+    }
+    varint_slow(s, from)
 }

@@ -1,6 +1,6 @@
 // Tags: field number and wire type.
 use crate::Varint;
-use crate::varint_at;
+use crate::varint_slow;
 use base_laws::wide;
 ghost use mathlib.Core.Path.{_≡_};
 ghost use Rattle.wire_varint.specs.Tag.{tagFits, tagOf, tagAt};
@@ -49,7 +49,7 @@ pub fn tag_of(value: u64, next: usize) -> Tag
 fn tag_slow(s: &[u8], at: usize) -> Tag
     ensures { λ r. ⌜ r ≡ tagAt (now (s .entry)) at ⌝ }
 {
-    match varint_at(s, at) {
+    match varint_slow(s, at) {
         Varint::Value { value, next } => tag_of(value, next),
         Varint::PastEnd => Tag::Refused { refusal: 2 },
         Varint::TooLong => Tag::Refused { refusal: 2 },
