@@ -33,8 +33,9 @@ static struct slice slice_of(const char *text, size_t n)
 /* The bytes of a string literal without its closing zero. */
 #define BYTES(TEXT) slice_of(TEXT, sizeof(TEXT) - 1)
 
-/* The number -1 as a varint. */
+/* The number -1 as a varint; the same with a tenth byte that is too great. */
 #define MINUS_ONE "\xFF\xFF\xFF\xFF\xFF\xFF\xFF\xFF\xFF\x01"
+#define TENTH_BYTE_OF_2 "\xFF\xFF\xFF\xFF\xFF\xFF\xFF\xFF\xFF\x02"
 
 static struct slice part(struct slice s, struct sudolog_span span)
 {
@@ -520,6 +521,22 @@ static struct slice at_the_end_of_a_page(struct slice s)
     return moved;
 }
 
+/* The varint at a place: the next number of a packed list that is the whole slice. */
+static void varint_is(struct slice list, size_t from, uint64_t value, size_t next)
+{
+    uint8_t numbers[24];
+    struct slice in = at_the_end_of_a_page(list);
+    CHECK(sudolog_next_number(in.m, in.n, from, in.n, numbers, sizeof numbers) == 1);
+    CHECK(sudolog_big_endian(numbers) == value && sudolog_big_endian(numbers + 8) == next);
+}
+
+static void no_varint_at(struct slice list, size_t from)
+{
+    uint8_t numbers[24];
+    struct slice in = at_the_end_of_a_page(list);
+    CHECK(sudolog_next_number(in.m, in.n, from, in.n, numbers, sizeof numbers) == 0);
+}
+
 /* A TimeSpec's seconds: what reading it gives, and the number. */
 static void seconds_of(struct slice message, int refusal, uint64_t seconds)
 {
@@ -539,7 +556,24 @@ static void data_of(struct slice message, int refusal, size_t offset, size_t len
 
 static void one_byte_varints(void)
 {
-    uint8_t of_127[2 + 127] = { 0x12, 0x7F }, of_128[3 + 128] = { 0x12, 0x80, 0x01 };
+    varint_is(BYTES("\x00"), 0, 0, 1);
+    varint_is(BYTES("\x7F"), 0, 127, 1);
+    no_varint_at(BYTES("\x80"), 0);
+    varint_is(BYTES("\x80\x01"), 0, 128, 2);
+    varint_is(BYTES("\x80\x00"), 0, 0, 2);
+    varint_is(BYTES("\x05\x80"), 0, 5, 1);
+    no_varint_at(BYTES("\x05\x80"), 1);
+    no_varint_at(BYTES("\x05"), 1);
+    no_varint_at(BYTES("\x05"), 2);
+    no_varint_at(BYTES("\x05"), SIZE_MAX);
+    no_varint_at(BYTES(""), 0);
+    varint_is(BYTES(MINUS_ONE), 0, UINT64_MAX, 10);
+    no_varint_at(BYTES(TENTH_BYTE_OF_2), 0);
+    varint_is(BYTES("\xFF\x7F"), 0, 16383, 2);
+}
+
+static void one_byte_seconds(void)
+{
     seconds_of(BYTES("\x08\x00"), 0, 0);
     seconds_of(BYTES("\x08\x7F"), 0, 127);
     seconds_of(BYTES("\x08\x80"), 2, 0);
@@ -549,14 +583,22 @@ static void one_byte_varints(void)
     seconds_of(BYTES("\x08"), 2, 0);
     seconds_of(BYTES(""), 0, 0);
     seconds_of(BYTES("\x08" MINUS_ONE), 0, UINT64_MAX);
-    seconds_of(BYTES("\x08\xFF\xFF\xFF\xFF\xFF\xFF\xFF\xFF\xFF\x02"), 2, 0);
+    seconds_of(BYTES("\x08" TENTH_BYTE_OF_2), 2, 0);
     seconds_of(BYTES("\x08\xFF\x7F"), 0, 16383);
+}
+
+static void one_byte_lengths(void)
+{
+    uint8_t of_127[2 + 127] = { 0x12, 0x7F }, of_128[3 + 128] = { 0x12, 0x80, 0x01 };
     data_of(BYTES("\x12\x00"), 0, 2, 0);
-    data_of(BYTES("\x12\x01x"), 0, 2, 1);
-    data_of(BYTES("\x12\x01"), 3, 0, 0);
+    data_of(BYTES("\x12\x01\x80"), 0, 2, 1);
+    data_of(BYTES("\x12\x05\x80"), 3, 0, 0);
     data_of(BYTES("\x12\x80"), 2, 0, 0);
     data_of(BYTES("\x12\x80\x00"), 0, 3, 0);
     data_of(BYTES("\x12"), 2, 0, 0);
+    data_of(BYTES("\x12" MINUS_ONE), 3, 0, 0);
+    data_of(BYTES("\x12" TENTH_BYTE_OF_2), 2, 0, 0);
+    data_of(BYTES("\x12\xFF\x7F"), 3, 0, 0);
     data_of(slice_of((const char *)of_127, sizeof of_127), 0, 2, 127);
     data_of(slice_of((const char *)of_127, sizeof of_127 - 1), 3, 0, 0);
     data_of(slice_of((const char *)of_128, sizeof of_128), 0, 3, 128);
@@ -752,7 +794,7 @@ static void each_refusal(void)
 {
     REFUSED_BOTH(time, "\x08", 2);
     REFUSED_BOTH(time, "\x08\x80", 2);
-    REFUSED_BOTH(time, "\x08\xFF\xFF\xFF\xFF\xFF\xFF\xFF\xFF\xFF\x02", 2);
+    REFUSED_BOTH(time, "\x08" TENTH_BYTE_OF_2, 2);
     REFUSED_BOTH(number_list, "\x0A\x01\x80\x01", 2);
     REFUSED_BOTH(client_hello, "\x0A\x03" "ab", 3);
     REFUSED_BOTH(client_hello, "\x7D\x00\x00\x00", 3);
@@ -1573,6 +1615,8 @@ int main(void)
     last_one_counts();
     longer_forms_are_read();
     one_byte_varints();
+    one_byte_seconds();
+    one_byte_lengths();
     numbers_above_the_messages();
     empty_messages();
     null_is_empty();
