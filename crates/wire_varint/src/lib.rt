@@ -12,7 +12,8 @@ pub enum Varint {
     TooLong,
 }
 
-// The varint at a place, byte by byte: the value so far, what the next byte counts, and how many bytes may follow it.
+// The varint at a place, byte by byte: the value so far, what the next byte counts, and how many bytes may follow it. Apart from
+// `varint_at`, so that its fast path can be inlined.
 fn varint_slow(s: &[u8], from: usize) -> Varint
     ensures { λ r. ⌜ r ≡ varintAt (now (s .entry)) from ⌝ }
 {

@@ -45,7 +45,8 @@ pub fn tag_of(value: u64, next: usize) -> Tag
     }
 }
 
-// A tag of two bytes or more, or none: apart from `tag_at`, so that its fast path can be inlined.
+// A tag of two bytes or more, or none: apart from `tag_at`, so that its fast path can be inlined. It has no use for the fast path of
+// `varint_at`, and as a second caller it keeps the compiler from putting `varint_slow` in line there.
 fn tag_slow(s: &[u8], at: usize) -> Tag
     ensures { λ r. ⌜ r ≡ tagAt (now (s .entry)) at ⌝ }
 {
