@@ -244,6 +244,34 @@ uint64_t sudolog_session_tick(const uint8_t *session, size_t session_n);
 /* What the used bytes of an area are as a file: one of enum sudolog_file. One pass over the record headers. */
 uint8_t sudolog_check_file(const uint8_t *area, size_t area_n, size_t used);
 
+/* ---- stored files ----
+ *
+ * A file is lent as sudolog_check_file takes it: an area, and how many of its bytes the file has. A length beyond the
+ * area, or an area beyond 1 GiB, is 15. */
+
+/* What two files differ in (request 9 of document 02). For each record number from 0, as many as the longer file has
+ * records, 8 bytes in `out`, two numbers of 4 bytes, most significant byte first: the sum of what differs, by enum
+ * sudolog_differs; and where 4 is in it the first offset within the data at which they differ, the shorter length where
+ * one is the other's beginning; otherwise 0. Returns as the writers do: in the low 32 bits how many bytes were written,
+ * above them the refusal: 15 where one of the two is no valid file, then 12 where `room` is below 8 bytes for each. */
+uint64_t sudolog_compare_files(const uint8_t *first, size_t first_n, size_t first_used,
+                               const uint8_t *second, size_t second_n, size_t second_used,
+                               uint8_t *out, size_t room);
+
+/* How many records a valid file has, in the low 32 bits; above them refusal 15 where it is none. */
+uint64_t sudolog_count_records(const uint8_t *area, size_t area_n, size_t used);
+
+/* The record at a place of a file: 1 and five numbers of 8 bytes in `out`, most significant byte first: the kind, the
+ * delay in nanoseconds (of an exit its run_time), the offset of the data in the area, their length, and the next place.
+ * 0 at the file's end; 15 where no whole record is there; then 12 where `room` is below 40. Begin with at 0. It looks at
+ * this record alone: that a file is valid, sudolog_check_file says. */
+uint8_t sudolog_next_record(const uint8_t *area, size_t area_n, size_t used, size_t at, uint8_t *out, size_t room);
+
+/* Recorded bytes as text that a terminal can be sent: bytes 32 to 126 as they are, but \ as \\; 10, 13 and 9 as \n, \r and
+ * \t; all others as \xHH. Different bytes have different texts. Returns as the writers do; 12 where the text has no room
+ * or more than 4,294,967,295 bytes. 4 bytes of room for each byte are enough. No zero is written behind the text. */
+uint64_t sudolog_escape(const uint8_t *data, size_t n, uint8_t *out, size_t room);
+
 #ifdef __cplusplus
 }
 #endif
@@ -976,6 +1004,127 @@ static inline bool sudolog_tick(const struct sudolog_session *session, struct su
         return false;
     *point = sudolog_time_of(at);
     return true;
+}
+
+/* ---- stored files: their records, and what two of them differ in ----
+ *
+ *   struct sudolog_records left = sudolog_records_of(area, sizeof area, used);
+ *   struct sudolog_record record;
+ *   while (sudolog_walk_records(&left, &record) == 1)
+ *       print(sudolog_kind_name(record.kind), record.delay, area + record.data.offset, record.data.length);
+ */
+
+/* A stored record. */
+struct sudolog_record {
+    int kind;                  /* of a valid file one of enum sudolog_from_client: accept, exit, or 6 to 12 */
+    struct sudolog_time delay; /* of an exit its run_time */
+    struct sudolog_span data;  /* in the area */
+};
+
+/* What is left of a file's records. It points into the area, which must stay as it is. */
+struct sudolog_records {
+    const uint8_t *area;
+    size_t area_n;
+    size_t used;
+    size_t at;
+};
+
+static inline struct sudolog_records sudolog_records_of(const uint8_t *area, size_t area_n, size_t used)
+{
+    struct sudolog_records left;
+    left.area = sudolog_lend(area);
+    left.area_n = sudolog_lent(area, area_n);
+    left.used = used;
+    left.at = 0;
+    return left;
+}
+
+/* 1 and the next record in out; 0 at the file's end, 15 where no whole record is left, and out untouched. */
+static inline int sudolog_walk_records(struct sudolog_records *left, struct sudolog_record *out)
+{
+    uint8_t numbers[40];
+    int answer = sudolog_next_record(SUDOLOG_LEND(left->area, left->area_n), left->used, left->at, numbers, sizeof numbers);
+    if (answer != 1)
+        return answer;
+    out->kind = (int)sudolog_big_endian(numbers);
+    out->delay = sudolog_time_of(sudolog_big_endian(numbers + 8));
+    out->data.offset = (size_t)sudolog_big_endian(numbers + 16);
+    out->data.length = (size_t)sudolog_big_endian(numbers + 24);
+    left->at = (size_t)sudolog_big_endian(numbers + 32);
+    return 1;
+}
+
+/* A record's kind in words; of a number that is none, too. */
+static inline const char *sudolog_kind_name(int kind)
+{
+    switch (kind) {
+    case SUDOLOG_FROM_CLIENT_ACCEPT: return "accept";
+    case SUDOLOG_FROM_CLIENT_EXIT: return "exit";
+    case SUDOLOG_FROM_CLIENT_TTYIN: return "ttyin";
+    case SUDOLOG_FROM_CLIENT_TTYOUT: return "ttyout";
+    case SUDOLOG_FROM_CLIENT_STDIN: return "stdin";
+    case SUDOLOG_FROM_CLIENT_STDOUT: return "stdout";
+    case SUDOLOG_FROM_CLIENT_STDERR: return "stderr";
+    case SUDOLOG_FROM_CLIENT_WINDOW_SIZE: return "window size";
+    case SUDOLOG_FROM_CLIENT_SUSPEND: return "suspend";
+    default: return "no kind of record";
+    }
+}
+
+/* The stored data (data, n) of an exit, whose record has the run_time: true and out filled, its spans in the data; false
+ * and out untouched where they are no exit's, which no valid file has. */
+static inline bool sudolog_get_stored_exit(const uint8_t *data, size_t n, struct sudolog_time run_time, struct sudolog_exit *out)
+{
+    const uint8_t *d = sudolog_lend(data);
+    size_t length = sudolog_lent(data, n);
+    size_t signal_n = length >= 2 ? (size_t)(d[1] & 127) : 0;
+    if (length < 2 + signal_n)
+        return false;
+    out->run_time = run_time;
+    out->exit_value = d[0];
+    out->dumped_core = d[1] >= 128;
+    out->signal.offset = 2;
+    out->signal.length = signal_n;
+    out->error.offset = 2 + signal_n;
+    out->error.length = length - 2 - signal_n;
+    return true;
+}
+
+/* The same of a window size, whose record has the delay. */
+static inline bool sudolog_get_stored_window_size(const uint8_t *data, size_t n, struct sudolog_time delay,
+                                                  struct sudolog_window_size *out)
+{
+    const uint8_t *d = sudolog_lend(data);
+    if (sudolog_lent(data, n) != 4)
+        return false;
+    out->delay = delay;
+    out->rows = d[0] << 8 | d[1];
+    out->cols = d[2] << 8 | d[3];
+    return true;
+}
+
+/* What the records of one number differ in, in two files: the sum of 1, 2 and 4; or 8 or 16 alone; 0 where they are equal. */
+enum sudolog_differs {
+    SUDOLOG_DIFFERS_KIND = 1,
+    SUDOLOG_DIFFERS_TIME = 2, /* the delay field */
+    SUDOLOG_DIFFERS_DATA = 4,
+    SUDOLOG_FIRST_ONLY = 8,
+    SUDOLOG_SECOND_ONLY = 16
+};
+
+struct sudolog_difference {
+    uint32_t flags;  /* of enum sudolog_differs */
+    uint32_t offset; /* of SUDOLOG_DIFFERS_DATA: where the data part; otherwise 0 */
+};
+
+/* What sudolog_compare_files wrote of the records with number i, which is below an eighth of the bytes written. */
+static inline struct sudolog_difference sudolog_difference_at(const uint8_t *out, size_t i)
+{
+    struct sudolog_difference difference;
+    uint64_t entry = sudolog_big_endian(out + 8 * i);
+    difference.flags = (uint32_t)(entry >> 32);
+    difference.offset = (uint32_t)(entry & UINT32_MAX);
+    return difference;
 }
 
 #endif

@@ -18,7 +18,8 @@ use Rattle.session.specs.Step.{Outcome, exitRecord, recordFor, lengthsFit, grow
 use Rattle.session_turn.specs.declared.State.{State}
 use Rattle.session_turn.specs.declared.State.the-variants.{Logging}
 use Rattle.session.specs.declared.Session.{Session}
-use Rattle.session.proofs.Lengths.{within-area, lengths}
+use Rattle.file_format.proofs.Areas.{within-area}
+use Rattle.session.proofs.Lengths.{lengths}
 use Rattle.claim_agreement.specs.Calls.{Host, answered}
 use Rattle.claim_agreement.specs.Agreement.{Agrees}
 use Rattle.claim_agreement.proofs.Files.{file-more}

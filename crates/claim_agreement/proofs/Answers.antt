@@ -16,11 +16,11 @@ use Rattle.wire_range.specs.Range.{acceptFits, reportFits, exitFits, restartFit
 use Rattle.wire.specs.Read.{Reading, value, refused, clientMessage, received}
 use Rattle.session_entries.specs.Required.{entriesRefusal}
 use Rattle.file_format.specs.Record.{Record}
-use Rattle.file_format.specs.File.{Records, all, none, recordsOf, FileKind, invalid, unfinished, finished, recordsKind, meets}
+use Rattle.file_format.specs.File.{Records, all, none, recordsOf, FileKind, invalid, unfinished, finished, recordsKind, meets, withinArea}
 use Rattle.session_turn.specs.Turn.{turn}
 use Rattle.session_turn.specs.declared.Turn.{Turn}
 use Rattle.session_turn.specs.declared.Turn.the-variants.{To, NotNow}
-use Rattle.session.specs.Step.{Outcome, moment, withinArea, lengthsFit, growthRefusal, refuse, roomFor, timed, entriesFirst, acceptStored, onAccept, onReject, exitStored, onExit, resumed, byKind, ofRecords, onRestart, act, inTurn, onReading, step, loggingPoint, pointIn, tick}
+use Rattle.session.specs.Step.{Outcome, moment, lengthsFit, growthRefusal, refuse, roomFor, timed, entriesFirst, acceptStored, onAccept, onReject, exitStored, onExit, resumed, byKind, ofRecords, onRestart, act, inTurn, onReading, step, loggingPoint, pointIn, tick}
 use Rattle.session_turn.specs.declared.State.{State}
 use Rattle.session_turn.specs.declared.State.the-variants.{New, Greeted, Logging, EventsOnly, Closed}
 use Rattle.session.specs.declared.Session.{Session}

@@ -15,13 +15,14 @@ use Rattle.wire_message.specs.Message.{Bytes, Accept, Report, Exit, Restart, Cl
 use Rattle.wire_range.specs.Range.{acceptFits, reportFits, exitFits, restartFits, ioFits, windowFits, suspendFits}
 use Rattle.wire.specs.Read.{Reading, value, refused, clientMessage, received}
 use Rattle.file_format.specs.Record.{Record, recordBytes}
-use Rattle.file_format.specs.File.{limit, Records, all, none, recordsOf, total, FileKind, invalid, unfinished, finished, recordsKind, meets}
+use Rattle.file_format.specs.File.{limit, Records, all, none, recordsOf, total, FileKind, invalid, unfinished, finished, recordsKind, meets, withinArea}
 use Rattle.session_turn.specs.Turn.{opening, recording, greeting, ending, alerting, turn}
-use Rattle.session.specs.Step.{Outcome, moment, acceptRecord, exitRecord, withinArea, lengthsFit, growthRefusal, taken, roomFor, timed, entriesFirst, acceptStored, onAccept, onReject, exitStored, onExit, resumed, byKind, ofRecords, onRestart, act, inTurn, onReading, step}
+use Rattle.session.specs.Step.{Outcome, moment, acceptRecord, exitRecord, lengthsFit, growthRefusal, taken, roomFor, timed, entriesFirst, acceptStored, onAccept, onReject, exitStored, onExit, resumed, byKind, ofRecords, onRestart, act, inTurn, onReading, step}
 use Rattle.session_turn.specs.declared.State.{State}
 use Rattle.session_turn.specs.declared.State.the-variants.{New, Greeted, Logging, EventsOnly, Closed}
 use Rattle.session.specs.declared.Session.{Session}
-use Rattle.session.proofs.Lengths.{within-area, lengths}
+use Rattle.file_format.proofs.Areas.{within-area}
+use Rattle.session.proofs.Lengths.{lengths}
 use Rattle.session.proofs.Timed.{growth-fits}
 use Rattle.claim_values.specs.Values.{TimedRecord, io, window, suspend, storedFor, timedInRange}
 use Rattle.claim_values.proofs.Stored.{StorableTimed, timed-ranged, may-follow}

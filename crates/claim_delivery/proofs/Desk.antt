@@ -15,8 +15,8 @@ use Rattle.wire_message.specs.Message.{Bytes, Restart, Client, acceptMsg, rejec
 use Rattle.wire_range.specs.Range.{restartFits}
 use Rattle.wire.specs.Read.{value, clientMessage}
 use Rattle.file_format.specs.Record.{Record, recordBytes}
-use Rattle.file_format.specs.File.{recordsOf, fileBytes, total, fileKind}
-use Rattle.session.specs.Step.{Outcome, moment, acceptRecord, exitRecord, fromAccept, grown, ended, carrying, withinArea, lengthsFit, atMark, refuse, taken, roomFor, stored, step}
+use Rattle.file_format.specs.File.{recordsOf, fileBytes, total, fileKind, withinArea}
+use Rattle.session.specs.Step.{Outcome, moment, acceptRecord, exitRecord, fromAccept, grown, ended, carrying, lengthsFit, atMark, refuse, taken, roomFor, stored, step}
 use Rattle.session.proofs.Turns.{mayOpen}
 use Rattle.session_turn.specs.declared.State.{State}
 use Rattle.session_turn.specs.declared.State.the-variants.{New, Greeted, Logging, Closed}

@@ -13,9 +13,9 @@ use Rattle.wire_message.specs.Message.{Bytes, Accept, Exit, Restart, Client, ac
 use Rattle.wire_range.specs.Range.{acceptFits, exitFits, restartFits, ioFits}
 use Rattle.session_entries.specs.Required.{entriesRefusal, namedKey}
 use Rattle.file_format.specs.Record.{Record, recordBytes}
-use Rattle.file_format.specs.File.{all, recordsOf, fileBytes, limit, lowTotal, unfinished, finished, recordsKind, meets, keep}
+use Rattle.file_format.specs.File.{all, recordsOf, fileBytes, limit, lowTotal, unfinished, finished, recordsKind, meets, keep, withinArea}
 use Rattle.session_turn.specs.Turn.{opening, recording, greeting, ending, alerting, turn}
-use Rattle.session.specs.Step.{moment, acceptRecord, exitRecord, fromAccept, fromRestart, grown, ended, carrying, withinArea, lengthsFit, atMark, growthRefusal, refuse, taken, roomFor, stored, timed, acceptStored, exitStored, onExit, resumed, byKind, ofRecords, onRestart, act, inTurn, onReading, step}
+use Rattle.session.specs.Step.{moment, acceptRecord, exitRecord, fromAccept, fromRestart, grown, ended, carrying, lengthsFit, atMark, growthRefusal, refuse, taken, roomFor, stored, timed, acceptStored, exitStored, onExit, resumed, byKind, ofRecords, onRestart, act, inTurn, onReading, step}
 use Rattle.session_turn.specs.declared.State.{State}
 use Rattle.session_turn.specs.declared.State.the-variants.{New, Greeted, Logging, EventsOnly, Closed}
 use Rattle.session.specs.declared.Session.{Session}

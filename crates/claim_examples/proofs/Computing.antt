@@ -86,7 +86,7 @@ turning = tt
 
 -- the tests before a record is stored
 unfoldable pub testing : Unit {0}
-unfolding splice s.natural s.moment s.withinArea s.lengthsFit s.atMark s.growthRefusal s.roomFor
+unfolding splice s.natural s.moment f.withinArea s.lengthsFit s.atMark s.growthRefusal s.roomFor
 testing = tt
 
 -- each message

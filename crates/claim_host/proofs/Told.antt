@@ -12,9 +12,9 @@ use Rattle.wire_message.specs.Message.{Bytes, Accept, Exit, Restart, Client, ac
 use Rattle.wire_range.specs.Range.{acceptFits, reportFits, exitFits, restartFits, ioFits, windowFits, suspendFits}
 use Rattle.wire.specs.Read.{Reading, value, refused, clientMessage, received}
 use Rattle.file_format.specs.Record.{Record}
-use Rattle.file_format.specs.File.{Records, all, none, recordsOf, FileKind, invalid, unfinished, finished, recordsKind, meets}
+use Rattle.file_format.specs.File.{Records, all, none, recordsOf, FileKind, invalid, unfinished, finished, recordsKind, meets, withinArea}
 use Rattle.session_turn.specs.Turn.{turn}
-use Rattle.session.specs.Step.{Outcome, moment, withinArea, lengthsFit, growthRefusal, roomFor, timed, entriesFirst, acceptStored, onAccept, onReject, exitStored, onExit, resumed, byKind, ofRecords, onRestart, act, inTurn, onReading, step}
+use Rattle.session.specs.Step.{Outcome, moment, lengthsFit, growthRefusal, roomFor, timed, entriesFirst, acceptStored, onAccept, onReject, exitStored, onExit, resumed, byKind, ofRecords, onRestart, act, inTurn, onReading, step}
 use Rattle.session_turn.specs.declared.State.{State}
 use Rattle.session_turn.specs.declared.State.the-variants.{New, Greeted, Logging, EventsOnly, Closed}
 use Rattle.session_turn.specs.declared.Turn.{Turn}

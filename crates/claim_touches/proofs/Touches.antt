@@ -14,15 +14,16 @@ use Rattle.wire_message.specs.Message.{Bytes, Accept, Report, Exit, Restart, Cl
 use Rattle.wire_range.specs.Range.{acceptFits, reportFits, exitFits, restartFits, ioFits, windowFits, suspendFits}
 use Rattle.wire.specs.Read.{Reading, value, refused, clientMessage, received}
 use Rattle.file_format.specs.Record.{Record, recordBytes}
-use Rattle.file_format.specs.File.{Records, all, none, recordsOf, FileKind, invalid, unfinished, finished, recordsKind, limit, meets}
+use Rattle.file_format.specs.File.{Records, all, none, recordsOf, FileKind, invalid, unfinished, finished, recordsKind, limit, meets, withinArea}
 use Rattle.session_turn.specs.Turn.{opening, recording, greeting, ending, alerting, turn}
 use Rattle.session_turn.specs.declared.State.{State}
 use Rattle.session_turn.specs.declared.State.the-variants.{New, Greeted, Logging, EventsOnly, Closed}
-use Rattle.session.specs.Step.{Outcome, moment, withinArea, lengthsFit, growthRefusal, atMark, roomFor, recordFor, timed, entriesFirst, acceptStored, onAccept, onReject, exitStored, onExit, resumed, byKind, ofRecords, onRestart, act, inTurn, onReading, step}
+use Rattle.session.specs.Step.{Outcome, moment, lengthsFit, growthRefusal, atMark, roomFor, recordFor, timed, entriesFirst, acceptStored, onAccept, onReject, exitStored, onExit, resumed, byKind, ofRecords, onRestart, act, inTurn, onReading, step}
 use Rattle.session.specs.declared.Session.{Session}
 use Rattle.session.specs.declared.Mark.{Mark}
 use Rattle.session.specs.declared.Mark.the-variants as mark
-use Rattle.session.proofs.Lengths.{within-area, lengths}
+use Rattle.file_format.proofs.Areas.{within-area}
+use Rattle.session.proofs.Lengths.{lengths}
 use Rattle.claim_values.specs.Values.{TimedRecord, io, window, suspend, timedMember, storedFor, timedInRange}
 use Rattle.claim_touches.specs.Touches.{Unopened, Follows, OneMore, Touched, nothing, begins, goes-on, resumes, ZeroDelay, Touches}
 

@@ -7,3 +7,4 @@ pub mod Splices
 pub mod Appends
 pub mod Restarts
 pub mod Beginnings
+pub mod Areas

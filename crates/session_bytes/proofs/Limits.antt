@@ -14,16 +14,17 @@ use Rattle.wire_message.specs.Message.{Bytes, Accept, Exit, Restart, Client, ac
 use Rattle.wire_range.specs.Range.{acceptFits, reportFits, exitFits, restartFits, ioFits, windowFits, suspendFits}
 use Rattle.wire.specs.Read.{Reading, value, refused, clientMessage, received}
 use Rattle.file_format.specs.Record.{Record, recordBytes}
-use Rattle.file_format.specs.File.{limit, Records, all, none, recordsOf, fileBytes, total, lowTotal, FileKind, invalid, unfinished, finished, recordsKind, meets, keep}
+use Rattle.file_format.specs.File.{limit, Records, all, none, recordsOf, fileBytes, total, lowTotal, FileKind, invalid, unfinished, finished, recordsKind, meets, keep, withinArea}
 use Rattle.file_format.proofs.Beginnings.{low-found, low-none}
 use Rattle.file_format.proofs.Restarts.{keep-total}
 use Rattle.session_turn.specs.Turn.{turn}
 use Rattle.session_turn.specs.declared.Turn.{Turn}
 use Rattle.session_turn.specs.declared.Turn.the-variants.{To, NotNow}
-use Rattle.session.specs.Step.{Outcome, moment, acceptRecord, inState, grown, withinArea, lengthsFit, growthRefusal, refuse, roomFor, timed}
+use Rattle.session.specs.Step.{Outcome, moment, acceptRecord, inState, grown, lengthsFit, growthRefusal, refuse, roomFor, timed}
 use Rattle.session.specs.Step.{entriesFirst, acceptStored, onAccept, onReject, exitStored, onExit, resumed, byKind, ofRecords, onRestart, act, inTurn, onReading, step}
 use Rattle.session.proofs.Moments.{moment-most, point-fits}
-use Rattle.session.proofs.Lengths.{within-area, lengths}
+use Rattle.file_format.proofs.Areas.{within-area}
+use Rattle.session.proofs.Lengths.{lengths}
 use Rattle.session.proofs.Timed.{growth-fits}
 use Rattle.session_turn.specs.declared.State.{State}
 use Rattle.session_turn.specs.declared.State.the-variants.{New, Greeted, Logging, EventsOnly, Closed}

@@ -1,0 +1,6 @@
+pub mod Answers
+pub mod Counts
+pub mod Entries
+pub mod Places
+pub mod Sides
+pub mod Turns
