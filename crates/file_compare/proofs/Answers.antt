@@ -8,11 +8,11 @@ use borrow.Author.Tests.{le-leb, lt-leb}
 use Rattle.base_laws.specs.Base.{splice}
 use Rattle.file_format.specs.Record.{Record}
 use Rattle.file_format.specs.File.{Records, all, none, recordsOf}
-use Rattle.file_compare.specs.Compare.{Difference, differences, entries, validRecords, reportOf, compared, answerOf, compareAnswer, outOf, compareOut, countOf, countAnswer}
+use Rattle.file_compare.specs.Compare.{Difference, differences, entryBytes, validRecords, reportOf, compared, answerOf, compareAnswer, outOf, compareOut, countOf, countAnswer}
 use Rattle.file_compare.specs.declared.Counted.the-variants as counted
 use Rattle.file_compare.specs.declared.Compared.{Compared}
 use Rattle.file_compare.specs.declared.Compared.the-variants as answer
-use Rattle.file_compare.proofs.Entries.{length-entries}
+use Rattle.file_compare.proofs.Entries.{length-entry-bytes}
 use Rattle.file_compare.proofs.Sides.{valid-records, one-each}
 
 -- ---- what a count says of the records
@@ -31,7 +31,7 @@ unfolding countOf
 of-count none n e = let z : _≡_ {A = ℕ} 0 1 = cc in absurd (omega arith)
 of-count (all rs) n e = (rs, refl, cc)
 
-is-valid : (s : List ℕ) (n : ℕ) → countAnswer s ≡ counted.Records n → (rs : List Record) × (validRecords s ≡ all rs) × (length rs ≡ n)
+pub is-valid : (s : List ℕ) (n : ℕ) → countAnswer s ≡ counted.Records n → (rs : List Record) × (validRecords s ≡ all rs) × (length rs ≡ n)
 unfolding countAnswer
 is-valid s n e = of-count (validRecords s) n e
 
@@ -60,12 +60,12 @@ module _ (a b out : List ℕ) where
         let (rs, x, k) = is-valid a m e in
         let (qs, y, l) = is-valid b n f in
         let ds : List Difference = differences rs qs in
-        let test = lt-leb (length (entries ds)) (length out) (omega (arith, length-entries ds, one-each rs qs)) in
+        let test = lt-leb (length (entryBytes ds)) (length out) (omega (arith, length-entry-bytes ds, one-each rs qs)) in
         rw (x, y) (rw test (refl, refl))
 
     -- the entries
     pub all-stored : (after : List ℕ) → count ≤ length out / 8
-        → ((rs qs : List Record) → recordsOf a ≡ all rs → recordsOf b ≡ all qs → count ≡ max (length rs) (length qs) → after ≡ splice out 0 (entries (differences rs qs)))
+        → ((rs qs : List Record) → recordsOf a ≡ all rs → recordsOf b ≡ all qs → count ≡ max (length rs) (length qs) → after ≡ splice out 0 (entryBytes (differences rs qs)))
         → Outcome a b out (answer.Entries count) after
     unfolding compareAnswer compareOut compared reportOf answerOf outOf
     all-stored after h stored =
@@ -73,6 +73,6 @@ module _ (a b out : List ℕ) where
         let (qs, y, l) = is-valid b n f in
         let ds : List Difference = differences rs qs in
         let number : count ≡ length ds = omega (arith, one-each rs qs) in
-        let test = le-leb (length (entries ds)) (length out) (omega (arith, length-entries ds)) in
+        let test = le-leb (length (entryBytes ds)) (length out) (omega (arith, length-entry-bytes ds)) in
         rw (x, y)
         (rw test (ap answer.Entries number, stored rs qs (valid-records a rs x) (valid-records b qs y) (omega arith)))

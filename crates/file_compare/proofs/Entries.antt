@@ -14,7 +14,7 @@ use Rattle.file_format.specs.Digits.{digits}
 use Rattle.file_format.specs.Record.{Record}
 use Rattle.file_format.proofs.Numbers.{length-digits, eight-digits, digits-append}
 use Rattle.file_parting.specs.Parting.{parting}
-use Rattle.file_compare.specs.Compare.{Difference, same, between, entries}
+use Rattle.file_compare.specs.Compare.{Difference, same, between, entryBytes}
 use Rattle.file_compare.specs.Walk.{entryNumber}
 
 -- ---- the number of an entry
@@ -53,26 +53,26 @@ entry-bytes : (d : Difference) → d .offset < 4294967296 → eight (entryNumber
 unfolding entryNumber
 entry-bytes d h = eight-digits (d .flags * 4294967296 + d .offset) ∙ digits-append 4 4 (d .flags) (d .offset) h
 
-pub length-entries : (ds : List Difference) → length (entries ds) ≡ 8 * length ds
-unfolding entries
-length-entries [] = refl
-length-entries (d ∷ ds) =
+pub length-entry-bytes : (ds : List Difference) → length (entryBytes ds) ≡ 8 * length ds
+unfolding entryBytes
+length-entry-bytes [] = refl
+length-entry-bytes (d ∷ ds) =
     let f : List ℕ = digits 4 (d .flags) in
     let o : List ℕ = digits 4 (d .offset) in
-    omega (arith, length-append (f ++ o) (entries ds), length-append f o, length-digits 4 (d .flags), length-digits 4 (d .offset), length-entries ds)
+    omega (arith, length-append (f ++ o) (entryBytes ds), length-append f o, length-digits 4 (d .flags), length-digits 4 (d .offset), length-entry-bytes ds)
 
-entries-on : (ds : List Difference) (d : Difference) → d .offset < 4294967296 → entries ds ++ eight (entryNumber d) ≡ entries (ds ++ (d ∷ []))
-unfolding entries
-entries-on [] d h = entry-bytes d h ∙ sym (append-nil (digits 4 (d .flags) ++ digits 4 (d .offset)))
-entries-on (x ∷ ds) d h =
+entry-bytes-on : (ds : List Difference) (d : Difference) → d .offset < 4294967296 → entryBytes ds ++ eight (entryNumber d) ≡ entryBytes (ds ++ (d ∷ []))
+unfolding entryBytes
+entry-bytes-on [] d h = entry-bytes d h ∙ sym (append-nil (digits 4 (d .flags) ++ digits 4 (d .offset)))
+entry-bytes-on (x ∷ ds) d h =
     let e : List ℕ = digits 4 (x .flags) ++ digits 4 (x .offset) in
-    append-assoc e (entries ds) (eight (entryNumber d)) ∙ ap (λ (l : List ℕ). e ++ l) (entries-on ds d h)
+    append-assoc e (entryBytes ds) (eight (entryNumber d)) ∙ ap (λ (l : List ℕ). e ++ l) (entry-bytes-on ds d h)
 
 -- ---- stores
 
 -- one entry behind those that stand
 pub one-more : (out x y : List ℕ) (ds : List Difference) (d : Difference) → d .offset < 4294967296 → 8 * length ds + 8 ≤ length out
-    → x ≡ splice out 0 (entries ds) → y ≡ splice x (8 * length ds) (eight (entryNumber d)) → y ≡ splice out 0 (entries (ds ++ (d ∷ [])))
+    → x ≡ splice out 0 (entryBytes ds) → y ≡ splice x (8 * length ds) (eight (entryNumber d)) → y ≡ splice out 0 (entryBytes (ds ++ (d ∷ [])))
 one-more out x y ds d h l p q =
-    splice-next out x y 0 (8 * length ds) (entries ds) (eight (entryNumber d)) (omega (arith, length-entries ds)) (omega arith) p q
-    ∙ ap (splice out 0) (entries-on ds d h)
+    splice-next out x y 0 (8 * length ds) (entryBytes ds) (eight (entryNumber d)) (omega (arith, length-entry-bytes ds)) (omega arith) p q
+    ∙ ap (splice out 0) (entry-bytes-on ds d h)

@@ -4,3 +4,4 @@ pub mod Entries
 pub mod Places
 pub mod Sides
 pub mod Turns
+pub mod Sizes

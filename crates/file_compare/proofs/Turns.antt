@@ -11,11 +11,12 @@ use Rattle.file_format.specs.File.{Found, whole, broken, recordAt, all, records
 use Rattle.file_format.specs.Head.{headOf}
 use Rattle.file_format.specs.declared.head.Head.the-variants as head
 use Rattle.file_parting.specs.Parting.{parting}
-use Rattle.file_compare.specs.Compare.{Difference, same, between, differences, entries}
+use Rattle.file_format.proofs.Found.{Short, short, broken-head, whole-head}
+use Rattle.file_compare.specs.Compare.{Difference, same, between, differences, entryBytes}
 use Rattle.file_compare.specs.Walk.{entryNumber, atPair, past, stepOf, stepOn, recordWith}
 use Rattle.file_compare.specs.declared.pair.Step.{Step}
 use Rattle.file_compare.proofs.Entries.{parting-within, at-most, one-more}
-use Rattle.file_compare.proofs.Places.{Short, short, broken-head, whole-head, Left, left-start, left-cons, left-nil}
+use Rattle.file_compare.proofs.Places.{Left, left-start, left-cons, left-nil}
 use Rattle.file_compare.proofs.Sides.{one-each}
 
 -- ---- the count of one file's records
@@ -118,10 +119,10 @@ pair-offset (whole r e) (whole q n) h = omega (arith, parting-within (r .content
 abbrev pub Laying : (a b before out : List ℕ) (i j k : ℕ) (rs qs : List Record) → Type 0
 Laying a b before out i j k rs qs =
     (ds : List Difference) × (xs : List Record) × (ys : List Record) × Left a i xs × Left b j ys × (differences rs qs ≡ ds ++ differences xs ys) × (length ds ≡ k)
-    × (out ≡ splice before 0 (entries ds))
+    × (out ≡ splice before 0 (entryBytes ds))
 
 pub lay-start : (a b out : List ℕ) (rs qs : List Record) → recordsOf a ≡ all rs → recordsOf b ≡ all qs → Laying a b out out 0 0 0 rs qs
-unfolding entries splice
+unfolding entryBytes splice
 lay-start a b out rs qs x y = ([], rs, qs, left-start a rs x, left-start b qs y, refl, refl, refl)
 
 -- a turn: the step's entry behind those that stand
@@ -149,7 +150,7 @@ nothing-more [] e = refl
 nothing-more (d ∷ l) e = absurd (omega arith)
 
 -- the end: all are stored
-pub lay-end : (a b before out : List ℕ) (i j k : ℕ) (rs qs : List Record) → k ≡ max (length rs) (length qs) → Laying a b before out i j k rs qs → out ≡ splice before 0 (entries (differences rs qs))
+pub lay-end : (a b before out : List ℕ) (i j k : ℕ) (rs qs : List Record) → k ≡ max (length rs) (length qs) → Laying a b before out i j k rs qs → out ≡ splice before 0 (entryBytes (differences rs qs))
 lay-end a b before out i j k rs qs e (ds, xs, ys, x, y, d, n, p) =
     let none-left : differences xs ys ≡ [] = nothing-more (differences xs ys) (omega (arith, one-each rs qs, ap length d, length-append ds (differences xs ys))) in
-    p ∙ ap (λ (l : List Difference). splice before 0 (entries l)) (sym (d ∙ ap (λ (l : List Difference). ds ++ l) none-left ∙ append-nil ds))
+    p ∙ ap (λ (l : List Difference). splice before 0 (entryBytes l)) (sym (d ∙ ap (λ (l : List Difference). ds ++ l) none-left ∙ append-nil ds))

@@ -10,7 +10,7 @@ ghost use lib.ListN.{length};
 ghost use Rattle.base_laws.specs.Base.{splice};
 ghost use Rattle.file_format.specs.Record.{Record};
 ghost use Rattle.file_format.specs.File.{all, recordsOf};
-ghost use Rattle.file_compare.specs.Compare.{differences, entries};
+ghost use Rattle.file_compare.specs.Compare.{differences, entryBytes};
 
 // How many records stand in a file, by their headers alone. Inner: `count_records` shows that the bytes are records.
 pub fn records_in(s: &[u8]) -> usize
@@ -40,7 +40,7 @@ pub fn records_in(s: &[u8]) -> usize
 pub fn lay_entries(a: &[u8], b: &[u8], count: usize, out: &mut [u8])
     requires { ⌜ 8 * count ≤ length (now out) ⌝ }
     ensures { λ _. ⌜ ((rs qs : List Record) → recordsOf (now (a .entry)) ≡ all rs → recordsOf (now (b .entry)) ≡ all qs → count ≡ max (length rs) (length qs)
-        → now (out .exit) ≡ splice (now (out .entry)) 0 (entries (differences rs qs))) ⌝ }
+        → now (out .exit) ≡ splice (now (out .entry)) 0 (entryBytes (differences rs qs))) ⌝ }
 {
     let mut i: usize = 0;
     let mut j: usize = 0;

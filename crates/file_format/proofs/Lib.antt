@@ -2,6 +2,7 @@ pub mod Numbers
 pub mod Records
 pub mod Times
 pub mod Heads
+pub mod Found
 pub mod Reading
 pub mod Splices
 pub mod Appends

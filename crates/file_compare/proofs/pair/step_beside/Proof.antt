@@ -1,12 +1,12 @@
 -- A broken head in the second file is Turns.beside-broken, a whole one Turns.beside-whole over entry_of's contract. Both records
--- lie within their files by Heads.head-reach, and the first's data are short by Places.head-limit.
+-- lie within their files by Heads.head-reach, and the first's data are short by Found.head-limit.
 use borrow.Author.Needs.{needs}
 use native.Mathlib.Omega.{arith}
 use Prim.Native.Nat.{_+_, _^_, _≤_, _<_}
 use lib.ListN.{length}
 use mathlib.Core.Path.{sym, _∙_}
 use Rattle.file_format.proofs.Heads.{head-reach}
-use Rattle.file_compare.proofs.Places.{head-limit}
+use Rattle.file_format.proofs.Found.{head-limit}
 use Rattle.file_compare.proofs.Turns.{beside-broken, beside-whole}
 use Rattle.file_compare.proofs.pair.step_beside.Statement.{statement}
 use Rattle.file_compare.proofs.pair.step_beside.Tie as tie
