@@ -182,7 +182,7 @@ static bool read_file(const char *name, struct file *file)
         tell_unread(name);
         free(file->bytes);
     }
-    if (from > STDIN_FILENO)
+    if (from >= 0 && !is_standard_input(name))
         close(from);
     return done;
 }
