@@ -52,3 +52,13 @@ class Library:
             sys.exit(f"the driver ended (status {self.driver.wait()}) at: {' '.join(words)[:2000]}")
         return json.loads(answer)
 
+    def stored(self, stream):
+        """The file that the library stores of a client's stream, over an area of 65,536 bytes."""
+        rest, used = stream.hex(), 0
+        self.ask("area", "0", "65536", "")
+        self.ask("open", "0")
+        while rest:
+            end = 8 + 2 * self.ask("frame", rest)["frame"]
+            used = self.ask("message", "0", "0", str(used), rest[8:end])["used"]
+            rest = rest[end:]
+        return bytes.fromhex(self.ask("bytes", "0", "0", str(used))["bytes"])
