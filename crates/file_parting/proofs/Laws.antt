@@ -2,7 +2,7 @@
 use mathlib.Core.Path.{_≡_, refl, sym, ap, subst, _∙_}
 use mathlib.Core.List.{List, [], _∷_}
 use mathlib.Core.Logic.{⊎-elim}
-use Prim.Native.Nat.{ℕ, zero, suc, _+_, _≤_, _<_}
+use Prim.Native.Nat.{ℕ, zero, suc, _+_, _-_, _≤_, _<_, min}
 use native.Mathlib.Numerals.{add-one}
 use native.Mathlib.Omega.{arith}
 use lib.ListN.{length, drop, getD, drop-of-length-le}
@@ -69,3 +69,31 @@ pub noted-more : (a b : List ℕ) (at k d : ℕ) → (d ≡ 0 → Agree a b at k
 noted-more a b at k d h =
     picked (λ (n : ℕ). n ≡ 0 → Agree a b at (k + 1)) (eqb (getD a (at + k) 0) (getD b (at + k) 0)) d 1
     (λ t z. more-agree a b at k (h z) (eqb-true (getD a (at + k) 0) (getD b (at + k) 0) t)) (λ t z. absurd (omega arith))
+
+-- ---- blocks laid over each other
+
+-- a block that begins within the bytes that agree, or right behind them
+pub joined : (a b : List ℕ) (i at k : ℕ) → Agree a b 0 i → at ≤ i → Agree a b at k → Agree a b 0 (at + k)
+joined a b i at k f h g j l =
+    ⊎-elim (λ (lt : j < i). f j lt)
+    (λ (le : i ≤ j).
+    let z : at + (j - at) ≡ 0 + j = omega arith in
+    subst (λ (x : ℕ). getD a x 0 ≡ getD b x 0) z (g (j - at) (omega arith)))
+    (lt-or-le j i)
+
+-- where all before a place agrees, the rest decides
+pub from-there : (a b : List ℕ) (i at : ℕ) → Agree a b 0 i → at ≤ i → at ≤ length a → at ≤ length b → at + parting (drop at a) (drop at b) ≡ parting a b
+from-there a b i at f h k m =
+    let p = passed a b 0 at (omega arith) (omega arith) (λ j l. f j (omega arith)) in
+    let here : 0 + at ≡ at = omega arith in
+    let z : parting (drop (0 + at) a) (drop (0 + at) b) ≡ parting (drop at a) (drop at b) = ap (λ (x : ℕ). parting (drop x a) (drop x b)) here in
+    omega (arith, p, z)
+
+-- where all up to the end of the shorter one agrees, they part there
+pub at-the-end : (a b : List ℕ) (n : ℕ) → n ≡ min (length a) (length b) → Agree a b 0 n → n ≡ parting a b
+at-the-end a b n e f =
+    let p = from-there a b n n f (omega arith) (omega arith) (omega arith) in
+    let z : parting (drop n a) (drop n b) ≡ 0 =
+    ⊎-elim (λ (lt : length a < length b). first-ends a b n (omega arith)) (λ (le : length b ≤ length a). second-ends a b n (omega arith))
+    (lt-or-le (length a) (length b)) in
+    omega (arith, p, z)

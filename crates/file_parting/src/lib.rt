@@ -1,7 +1,7 @@
 // Where two slices part.
 ghost use mathlib.Core.Path.{_≡_};
 ghost use mathlib.Core.Bool.{false};
-ghost use Prim.Native.Nat.{_+_, _≤_};
+ghost use Prim.Native.Nat.{_+_, _≤_, min};
 ghost use lib.ListN.{length, drop};
 ghost use lib.Dec.{eqb};
 ghost use Rattle.base_laws.specs.Base.{pick};
@@ -15,13 +15,27 @@ fn noted(d: u8, x: u8, y: u8) -> u8
 }
 
 // Do 32 bytes from a place on differ. The loop is not left early and what it notes is a byte: so the compiler compares 16 bytes at once.
-fn differ(a: &[u8], b: &[u8], at: usize) -> bool
+fn differ_32(a: &[u8], b: &[u8], at: usize) -> bool
     requires { ⌜ (at + 32 ≤ length (now a)) × (at + 32 ≤ length (now b)) ⌝ }
     ensures { λ r. ⌜ (r ≡ false → Agree (now (a .entry)) (now (b .entry)) at 32) ⌝ }
 {
     let mut d: u8 = 0;
     let mut k: usize = 0;
     while k < 32 {
+        d = noted(d, a[at + k], b[at + k]);
+        k += 1;
+    }
+    d != 0
+}
+
+// The same of 16 bytes: a loop with its number of turns written out is one comparison, and one with a number that is handed in is not.
+fn differ_16(a: &[u8], b: &[u8], at: usize) -> bool
+    requires { ⌜ (at + 16 ≤ length (now a)) × (at + 16 ≤ length (now b)) ⌝ }
+    ensures { λ r. ⌜ (r ≡ false → Agree (now (a .entry)) (now (b .entry)) at 16) ⌝ }
+{
+    let mut d: u8 = 0;
+    let mut k: usize = 0;
+    while k < 16 {
         d = noted(d, a[at + k], b[at + k]);
         k += 1;
     }
@@ -46,20 +60,54 @@ fn parting_from(a: &[u8], b: &[u8], from: usize) -> usize
     i
 }
 
-// The first place where two slices differ, the end of the shorter one where it is the beginning of the other. It goes by blocks
-// of 32 bytes, and looks at single bytes only where a block differs or fewer are left.
-pub fn first_difference(a: &[u8], b: &[u8]) -> usize
+fn shorter(x: usize, y: usize) -> usize
+    ensures { λ r. ⌜ r ≡ min x y ⌝ }
+{
+    if x < y { x } else { y }
+}
+
+// Where two slices part, by blocks of 32. The last block is laid over the end, so that it goes over some bytes a second time and none is
+// left to be looked at by itself.
+fn by_blocks(a: &[u8], b: &[u8], n: usize) -> usize
+    requires { ⌜ (32 ≤ n) × (n ≡ min (length (now a)) (length (now b))) ⌝ }
     ensures { λ r. ⌜ r ≡ parting (now (a .entry)) (now (b .entry)) ⌝ }
 {
     let mut i: usize = 0;
-    while 32 <= a.len() - i {
-        if b.len() - i < 32 {
-            return parting_from(a, b, i);
+    while i < n {
+        let at = shorter(i, n - 32);
+        if differ_32(a, b, at) {
+            return parting_from(a, b, at);
         }
-        if differ(a, b, i) {
-            return parting_from(a, b, i);
-        }
-        i += 32;
+        i = at + 32;
     }
-    parting_from(a, b, i)
+    n
+}
+
+// The same where there is no room for 32: the first 16 bytes, and the last.
+fn by_two_blocks(a: &[u8], b: &[u8], n: usize) -> usize
+    requires { ⌜ (16 ≤ n) × (n ≤ 32) × (n ≡ min (length (now a)) (length (now b))) ⌝ }
+    ensures { λ r. ⌜ r ≡ parting (now (a .entry)) (now (b .entry)) ⌝ }
+{
+    if differ_16(a, b, 0) {
+        return parting_from(a, b, 0);
+    }
+    if differ_16(a, b, n - 16) {
+        return parting_from(a, b, 16);
+    }
+    n
+}
+
+// The first place where two slices differ, the end of the shorter one where it is the beginning of the other. Single bytes are looked at
+// only where a block differs, and of fewer than 16.
+pub fn first_difference(a: &[u8], b: &[u8]) -> usize
+    ensures { λ r. ⌜ r ≡ parting (now (a .entry)) (now (b .entry)) ⌝ }
+{
+    let n = shorter(a.len(), b.len());
+    if 32 <= n {
+        return by_blocks(a, b, n);
+    }
+    if 16 <= n {
+        return by_two_blocks(a, b, n);
+    }
+    parting_from(a, b, 0)
 }

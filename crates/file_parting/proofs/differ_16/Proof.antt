@@ -6,14 +6,14 @@ use borrow.Author.Needs.{needs}
 use borrow.Author.Tests.{not-false, eqb-true}
 use Rattle.file_parting.specs.Parting.{Agree}
 use Rattle.file_parting.proofs.Laws.{noted-more}
-use Rattle.file_parting.proofs.differ.Statement.{statement}
-use Rattle.file_parting.proofs.differ.Tie as tie
+use Rattle.file_parting.proofs.differ_16.Statement.{statement}
+use Rattle.file_parting.proofs.differ_16.Tie as tie
 
 abbrev Inv-loop : tie.InvT-loop
-Inv-loop a b at d₀ k₀ d k = (k ≤ 32) × (d ≡ 0 → Agree a b at k)
+Inv-loop a b at d₀ k₀ d k = (k ≤ 16) × (d ≡ 0 → Agree a b at k)
 
 abbrev μ-loop : tie.MeasureT-loop
-μ-loop a b at d₀ k₀ d k = 32 - k
+μ-loop a b at d₀ k₀ d k = 16 - k
 
 loop-holds : tie.Need-loop-holds Inv-loop μ-loop
 loop-holds c = (omega arith, λ _ i l. absurd (omega arith))
@@ -30,11 +30,11 @@ returns c h =
     let at-loop = c .before in
     let l = at-loop .loop in
     let a = at-loop .before .before .before .args in
-    let all : l .k ≡ 32 = omega arith in
+    let all : l .k ≡ 16 = omega arith in
     subst (Agree (a .a .now) (a .b .now) (a .at)) all (l .inv .1 (eqb-true (l .d) 0 (not-false _ h)))
 
-pub differ-spec : {M : Type 1} → statement M
-differ-spec =
+pub differ-16-spec : {M : Type 1} → statement M
+differ-16-spec =
     tie.close
     (tie.spec
     Inv-loop
