@@ -45,8 +45,15 @@ class Library:
 
     def ask(self, *words):
         """One request of driver.c; its answer as a Python value."""
-        self.driver.stdin.write(" ".join(words).encode() + b"\n")
+        return self.ask_all([words])[0]
+
+    def ask_all(self, requests):
+        """Some requests at once, which is quicker: together their answers must fit into a pipe."""
+        self.driver.stdin.write(b"".join(" ".join(words).encode() + b"\n" for words in requests))
         self.driver.stdin.flush()
+        return [self.answer_to(words) for words in requests]
+
+    def answer_to(self, words):
         answer = self.driver.stdout.readline()
         if not answer:
             sys.exit(f"the driver ended (status {self.driver.wait()}) at: {' '.join(words)[:2000]}")
