@@ -251,14 +251,14 @@ static void test_headers_alone(void)
 static void test_walk(void)
 {
     uint8_t file[128];
-    size_t used = two_records(file, (const uint8_t *)"hi", 2), end = add_record(file, used, 3, 2, "\7\0", 2);
+    size_t used = add_record(file, add_record(file, 0, 1, 0, "A", 1), 10, 1, "hi", 2), end = add_record(file, used, 3, 2, "\7\0", 2);
     struct sudolog_records left = sudolog_records_of(file, sizeof file, end);
     struct sudolog_record record, before;
     CHECK(left.area == file && left.area_n == sizeof file && left.used == end && left.at == 0);
     CHECK(sudolog_walk_records(&left, &record) == 1 && record.kind == SUDOLOG_FROM_CLIENT_ACCEPT && left.at == 12);
     CHECK(record.delay.seconds == 0 && record.delay.nanoseconds == 0 && record.data.offset == 11 && record.data.length == 1);
     file[12 + 8] |= 0x40; /* a nanosecond more */
-    CHECK(sudolog_walk_records(&left, &record) == 1 && record.kind == SUDOLOG_FROM_CLIENT_TTYOUT && left.at == used);
+    CHECK(sudolog_walk_records(&left, &record) == 1 && record.kind == SUDOLOG_FROM_CLIENT_STDERR && left.at == used);
     CHECK(record.delay.seconds == 1 && record.delay.nanoseconds == 1 && record.data.offset == 23 && record.data.length == 2);
     CHECK(sudolog_walk_records(&left, &record) == 1 && record.kind == SUDOLOG_FROM_CLIENT_EXIT && left.at == end);
     memset(&record, 0xA5, sizeof record);
