@@ -74,7 +74,7 @@ def delay(rng):
 
 
 def exit_record(rng):
-    signal = rng.choice([b"", b"", b"SEGV", b"TERM", b"x" * 127])
+    signal = rng.choice([b"", b"", b"SEGV", b"\x1b[0m", b"x" * 127])
     error = rng.choice([b"", b"", b"command not found", data_bytes(rng, rng.choice(SIZES))])
     return EXIT, delay(rng), bytes([rng.randrange(256), rng.choice([0, 128]) | len(signal)]) + signal + error
 
