@@ -184,7 +184,8 @@ static void test_wrong_lengths(void)
     size_t n = add_record(file, 0, 1, 0, "A", 1), i;
     static const struct {
         size_t n, used;
-    } wrong[] = { { 0, 0 }, { 0, 1 }, { 100, 101 }, { 100, SIZE_MAX }, { (size_t)SUDOLOG_AREA_MAX + 1, 12 }, { SIZE_MAX, 12 }, { SIZE_MAX, SIZE_MAX } };
+    } wrong[] = { { 0, 0 }, { 0, 1 }, { 100, 101 }, { 100, SIZE_MAX }, { (size_t)SUDOLOG_AREA_MAX + 1, 12 }, { SIZE_MAX, 12 },
+                  { SIZE_MAX, SIZE_MAX } };
     for (i = 0; i < sizeof wrong / sizeof *wrong; i++) {
         CHECK(sudolog_count_records(area, wrong[i].n, wrong[i].used) == (uint64_t)15 << 32);
         CHECK(sudolog_compare_files(area, wrong[i].n, wrong[i].used, file, n, n, out, 64) == (uint64_t)15 << 32);
