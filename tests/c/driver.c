@@ -17,7 +17,7 @@
  *                     it is called twice, over different bytes, and "touched":true is added where a byte
  *                     beyond those written was changed, "differs":true where the two answers do.
  *
- * driver_sessions.c has the requests about areas, sessions and files.
+ * driver_sessions.c has the requests about areas, sessions and files, driver_files.c those about the records of files.
  */
 #define _DEFAULT_SOURCE
 #include "driver.h"
@@ -426,23 +426,6 @@ struct bytes from_hex(const char *hex)
 
 /* ---- requests to write ---- */
 
-struct list {
-    int64_t *numbers; /* NULL where n is 0, as ends */
-    size_t *ends;     /* the same numbers */
-    size_t n;
-};
-
-/* What a writer is given. The arguments stand in the order of the header's parameters, by their kind. */
-struct given {
-    uint64_t member;
-    uint8_t framed;
-    uint64_t number[4];
-    struct bytes slice[3];
-    struct list list;
-    uint8_t *out;
-    size_t room;
-};
-
 #define PLACE g->framed, g->out, g->room
 #define NUMBER(I) g->number[I]
 #define FLAG(I) (uint8_t)g->number[I]
@@ -606,7 +589,7 @@ static void put_written(const uint8_t *room_start, size_t room, uint64_t written
 }
 
 /* Writes twice, over two fills that differ in every bit, so that no byte is written unseen. */
-static void answer_written(uint64_t (*write)(const struct given *), struct given *g)
+void answer_written(uint64_t (*write)(const struct given *), struct given *g)
 {
     struct outcome one = written_over(0xA5, write, g), other = written_over(0x5A, write, g);
     size_t size = sudolog_written_size(one.written);
@@ -660,7 +643,7 @@ static bool answer_line(char *line)
     bool known;
     if (strcmp(ask, "write") == 0)
         return answer_write(line);
-    if (answer_session(ask, line))
+    if (answer_session(ask, line) || answer_records(ask, line))
         return true;
     name = named ? strsep(&line, " ") : "";
     in = from_hex(line != NULL ? line : "");

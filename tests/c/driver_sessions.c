@@ -44,6 +44,11 @@ static size_t next_number(char **words, size_t limit)
     return (size_t)number;
 }
 
+struct bytes area_named(char **words)
+{
+    return areas[next_number(words, AREAS)];
+}
+
 /* An area is mapped and touched only where it is used: some are a GiB and more. */
 static void answer_area(char *words)
 {
@@ -78,11 +83,11 @@ static void put_hex(const uint8_t *m, size_t n)
 
 static void answer_bytes(char *words)
 {
-    struct bytes *area = &areas[next_number(&words, AREAS)];
+    struct bytes area = area_named(&words);
     size_t from = next_number(&words, SIZE_MAX), to = next_number(&words, SIZE_MAX);
-    if (to > area->n || from > to)
+    if (to > area.n || from > to)
         exit(2);
-    put_hex(area->m + from, to - from);
+    put_hex(area.m + from, to - from);
 }
 
 static void answer_open(char *words)
@@ -116,12 +121,12 @@ static void put_point(bool given, struct sudolog_time point)
 }
 
 /* Through the library itself: the header's struct has 40 bytes, and the slice may have another length here. */
-static struct sudolog_answer take(size_t k, struct bytes m, struct bytes *area, size_t used)
+static struct sudolog_answer take(size_t k, struct bytes m, struct bytes area, size_t used)
 {
     struct sudolog_answer answer;
     uint8_t out[40];
     int refusal = sudolog_session_message(sessions[k].bytes, sessions[k].n, SUDOLOG_LEND(m.m, m.n),
-                                          SUDOLOG_LEND_ROOM(area->m, area->n), used, out, sizeof out);
+                                          SUDOLOG_LEND_ROOM(area.m, area.n), used, out, sizeof out);
     sudolog_get_answer(refusal, out, &answer);
     return answer;
 }
@@ -129,7 +134,7 @@ static struct sudolog_answer take(size_t k, struct bytes m, struct bytes *area, 
 static void answer_message_in(char *words)
 {
     size_t k = next_number(&words, SESSIONS);
-    struct bytes *area = &areas[next_number(&words, AREAS)];
+    struct bytes area = area_named(&words);
     size_t used = next_number(&words, SIZE_MAX);
     struct bytes m = from_hex(words != NULL ? words : "");
     struct sudolog_answer answer = take(k, m, area, used);
@@ -160,9 +165,9 @@ static void answer_tick(char *words)
 
 static void answer_file(char *words)
 {
-    struct bytes *area = &areas[next_number(&words, AREAS)];
+    struct bytes area = area_named(&words);
     size_t used = next_number(&words, SIZE_MAX);
-    uint8_t is = sudolog_check_file(SUDOLOG_LEND(area->m, area->n), used);
+    uint8_t is = sudolog_check_file(SUDOLOG_LEND(area.m, area.n), used);
     if (is == SUDOLOG_FILE_UNFINISHED || is == SUDOLOG_FILE_FINISHED)
         printf("{\"finished\":%s}\n", is == SUDOLOG_FILE_FINISHED ? "true" : "false");
     else

@@ -145,6 +145,15 @@ uint8_t sudolog_session_message(uint8_t *session, size_t session_n, const uint8_
     return look(message, n) | look_at_room(area, area_n);
 }
 
+/* A record, so that its numbers are taken. */
+uint8_t sudolog_next_record(const uint8_t *area, size_t area_n, size_t used, size_t at, uint8_t *out, size_t room)
+{
+    (void)used;
+    (void)at;
+    memset(out, 0, room);
+    return (uint8_t)(look(area, area_n) + 1u);
+}
+
 /* A call that hands over slices, all of them empty. */
 #define HANDS_OVER(CALL)                                                                                    \
     do {                                                                                                    \
@@ -244,6 +253,21 @@ static void walk_null(size_t n)
     HANDS_OVER(sudolog_next_int64(&numbers, &number));
 }
 
+/* Files at NULL, and stored data. */
+static void walk_files_of_null(size_t n)
+{
+    struct sudolog_records left = sudolog_records_of(NULL, n, n), holds_null = { NULL, n, n, 0 };
+    struct sudolog_time time = { 0, 0 };
+    struct sudolog_record record;
+    struct sudolog_exit ended;
+    struct sudolog_window_size size;
+    CHECK(left.area != NULL && left.area_n == 0 && left.used == n && left.at == 0);
+    HANDS_OVER(sudolog_walk_records(&left, &record));
+    HANDS_OVER(sudolog_walk_records(&holds_null, &record));
+    CHECK(!sudolog_get_stored_exit(NULL, n, time, &ended));
+    CHECK(!sudolog_get_stored_window_size(NULL, n, time, &size));
+}
+
 #ifdef OVER_THE_LIBRARY
 
 /* Every writer, with NULL for each of its slices and for its room. */
@@ -271,6 +295,20 @@ static void lend_null(size_t n)
     HANDS_OVER(sudolog_write_entry_string(2, KEY, BYTES, 1, ROOM));
     HANDS_OVER(sudolog_write_entry_strings(2, KEY, BYTES, ENDS, 1, ROOM));
     HANDS_OVER(sudolog_write_entry_numbers(2, KEY, NUMBERS, 1, ROOM));
+}
+
+/* The calls for stored files: with files at NULL, then with none but room at NULL. */
+static void lend_null_as_file(size_t n)
+{
+    static const uint8_t one[] = { 0x10, 0, 0, 0, 0, 0, 0, 0, 0, 0, 1, 'A' }, other[] = { 0x10, 0, 0, 0, 0, 0, 0, 0, 0, 0, 0 };
+    HANDS_OVER(sudolog_compare_files(BYTES, 0, BYTES, 0, ROOM));
+    HANDS_OVER(sudolog_compare_files(BYTES, n, BYTES, n, ROOM));
+    HANDS_OVER(sudolog_count_records(BYTES, n));
+    HANDS_OVER(sudolog_next_record(BYTES, n, 0, ROOM));
+    HANDS_OVER(sudolog_escape(BYTES, ROOM));
+    HANDS_OVER(sudolog_compare_files(one, sizeof one, sizeof one, other, sizeof other, sizeof other, ROOM));
+    HANDS_OVER(sudolog_next_record(one, sizeof one, sizeof one, 0, ROOM));
+    HANDS_OVER(sudolog_escape(KEY, ROOM));
 }
 
 /* Messages that a session would store, over an area that could not be had: an accept with I/O, then, in logging, a ttyout. */
@@ -333,9 +371,11 @@ int main(void)
         get_fields_of_null(lengths[i]);
         walk_lists_of_null(lengths[i]);
         walk_null(lengths[i]);
+        walk_files_of_null(lengths[i]);
         lend_null(lengths[i]);
         take_null(lengths[i]);
 #ifdef OVER_THE_LIBRARY
+        lend_null_as_file(lengths[i]);
         store_in_null(lengths[i]);
 #endif
     }

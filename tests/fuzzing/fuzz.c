@@ -2,9 +2,10 @@
  * fuzz.c: bad input by the thousand for every call of include/sudolog.h, for libFuzzer. tests/fuzz builds and runs it.
  *
  * An input is a small program. Its bytes choose messages and values, damage what was written, and choose calls: reading,
- * writing, cutting frames, and a host with a session and an area whose messages, lengths, session bytes and file may
- * all be wrong. Every call is made over memory between pages that can't be touched (lent.h). What sessions, ticks
- * and file checks answer is compared with model.h, all of it: refusal, answer, session and every byte of the area.
+ * writing, cutting frames, a host with a session and an area whose messages, lengths, session bytes and file may
+ * all be wrong, and that file beside an earlier copy. Every call is made over memory between pages that can't be touched
+ * (lent.h). What sessions, ticks, file checks and the calls for stored files answer is compared with model.h, all of it: refusal,
+ * answer, session and every byte of the area.
  * Of the readers and writers the header's promises are checked.
  *
  * What guides libFuzzer: the branches of this program and of the model, the answers that are handed to saw(), and the blocks
@@ -15,6 +16,7 @@
  * wrongly, each in a way that has to be found.
  */
 #define _GNU_SOURCE
+#include "files.h"
 #include "reading.h"
 #include "session.h"
 #include "writing.h"
@@ -25,8 +27,8 @@ static void run_program(struct program *p)
 {
     static void (*const steps[])(struct program *) = {
         write_message, write_message, raw_message, damage, damage, read_message, cut_frames, hand_over, hand_over,
-        hand_wrongly, tick, connect, restart, fresh_area, bend, check_files, send_one, send_one, send_one,
-        whole_session, large
+        hand_wrongly, tick, connect, restart, fresh_area, bend, check_and_compare, send_one, send_one, send_one,
+        whole_session, large_or_files
     };
     int left = 64;
     while (p->at < p->n && left-- > 0)
@@ -40,6 +42,7 @@ static void begin(void)
     at_lower_end = false;
     host.n = host.spare_n = 0;
     host.large_done = false;
+    copy.n = copy.used = 0;
     memset(host.session, 0, sizeof host.session);
     fresh_area(&p);
     host.area_n = 2000;
@@ -71,6 +74,10 @@ static void print_tally(void)
     print_counts("states without and with a restart's point", tally.mark, 2, 3);
     print_counts("ticks without and with a point", tally.ticks, 2, 3);
     print_counts("file checks", tally.file, 16, 0x8003);
+    print_counts("comparisons' refusals", tally.compared, 17, 0x9001);
+    print_counts("sums of flags", tally.flags, 17, 0x101FF);
+    print_counts("steps to a record", tally.stepped, 17, 0x9003);
+    print_counts("texts' refusals", tally.escaped, 17, 0x1001);
     printf("restarts taken: %lu\n", tally.restarts);
     if (blocks.n != 0)
         printf("blocks of the library's code: %zu of %zu reached\n", blocks.reached, blocks.n);

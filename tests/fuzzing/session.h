@@ -488,7 +488,7 @@ static void whole_session(struct program *p)
     }
 }
 
-/* ---- the largest messages. They take long: once for each input, and behind a byte that is rarely met ---- */
+/* ---- the largest messages. They take long: once for each input ---- */
 
 static uint8_t *put_long(uint8_t *at, size_t number)
 {
@@ -542,7 +542,7 @@ static void write_large(struct program *p, uint8_t how)
 static void large(struct program *p)
 {
     uint8_t how;
-    if (byte(p) != 'L' || host.large_done)
+    if (host.large_done)
         return;
     host.large_done = true;
     how = byte(p);

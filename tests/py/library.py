@@ -1,4 +1,4 @@
-"""The library as the test scripts reach it: tests/c/driver.c and driver_sessions.c, built and called line by line."""
+"""The library as the test scripts reach it: tests/c/driver.c and its two other parts, built and called line by line."""
 
 import json
 import os
@@ -7,7 +7,7 @@ import sys
 
 ROOT = os.path.dirname(os.path.dirname(os.path.dirname(os.path.abspath(__file__))))
 DRIVER = os.path.join(ROOT, "target", "tests", "driver")
-SOURCES = [os.path.join(ROOT, "tests", "c", name) for name in ("driver.c", "driver_sessions.c")]
+SOURCES = [os.path.join(ROOT, "tests", "c", name) for name in ("driver.c", "driver_sessions.c", "driver_files.c")]
 HEADERS = [os.path.join(ROOT, "tests", "c", "driver.h"), os.path.join(ROOT, "include", "sudolog.h")]
 MADE = os.path.join(ROOT, "target", "staticlib", "libsudolog.a")
 
@@ -45,8 +45,15 @@ class Library:
 
     def ask(self, *words):
         """One request of driver.c; its answer as a Python value."""
-        self.driver.stdin.write(" ".join(words).encode() + b"\n")
+        return self.ask_all([words])[0]
+
+    def ask_all(self, requests):
+        """Some requests at once, which is quicker: together their answers must fit into a pipe."""
+        self.driver.stdin.write(b"".join(" ".join(words).encode() + b"\n" for words in requests))
         self.driver.stdin.flush()
+        return [self.answer_to(words) for words in requests]
+
+    def answer_to(self, words):
         answer = self.driver.stdout.readline()
         if not answer:
             sys.exit(f"the driver ended (status {self.driver.wait()}) at: {' '.join(words)[:2000]}")

@@ -8,10 +8,9 @@ import hashlib
 HASHED = 65536  # areas up to this size are compared whole
 
 
-def lend(lib, case, area=0):
-    """An area of the case's size with its bytes; some files are longer than what is lent of them."""
-    size = case["area_size"]
-    lib.ask("area", str(area), str(size), case["area"][:2 * size])
+def lend(lib, size, start, area=0):
+    """An area of this size with its first bytes; some files are longer than what is lent of them."""
+    lib.ask("area", str(area), str(size), start[:2 * size])
 
 
 def answer_of(told):
@@ -53,7 +52,7 @@ def restart_message(point):
 def check_file(lib, case):
     """A file: what it is; of an unfinished one, what a restart at each of its totals keeps, and at others."""
     out, used = case["out"], str(case["used"])
-    lend(lib, case)
+    lend(lib, case["area_size"], case["area"])
     expected = {"refused": out["refused"]} if "refused" in out else {"finished": out["finished"]}
     yield "file", expected, lib.ask("file", "0", used)
     if "refused" in out:
@@ -72,9 +71,24 @@ def check_file(lib, case):
         yield f"restart at {point}", expected, [reply.get("refused", 0), reply["used"]]
 
 
+def check_difference(lib, case):
+    """Two files laid side by side, and how many records each has: the longer one as many as there are entries."""
+    out, asked, counted = case["out"], [], []
+    for area, file in enumerate((case["first"], case["second"])):
+        lend(lib, file["size"], file["area"], area)
+        asked += [str(area), str(file["used"])]
+        counted.append(lib.ask("count", *asked[-2:]))
+    expected = {"written": out} if isinstance(out, str) else {"refused": out["refused"]}
+    yield "compare", expected, lib.ask("compare", *asked, str(case["room"]))
+    if expected == {"refused": 15}:
+        yield "one is refused", True, {"refused": 15} in counted
+    elif "written" in expected:
+        yield "records", len(out) // 16, max(count.get("records", -1) for count in counted)
+
+
 def check_session(lib, case):
     """Calls of sessions over one area."""
-    lend(lib, case)
+    lend(lib, case["area_size"], case["area"])
     opened = set()
     for call in case["calls"]:
         session = str(call["session"])
@@ -91,7 +105,7 @@ def check_session(lib, case):
 
 def check_stream(lib, case):
     """A stream, cut into frames, each handed to one session."""
-    lend(lib, case)
+    lend(lib, case["area_size"], case["area"])
     lib.ask("open", "0")
     used, rest = case["used"], case["stream"]
     for frame in case["frames"]:
