@@ -196,13 +196,20 @@ static uint64_t some_member(void)
     return members[below(sizeof members)];
 }
 
+static uint8_t io_data[LONGEST];
+
+/* With n bytes of the data that are there. */
+static size_t write_io_again(size_t n, bool framed, uint8_t *out)
+{
+    return written(sudolog_write_io(some_member(), some_seconds(), some_nanoseconds(), io_data, n, framed, out, n + AROUND));
+}
+
 static size_t write_io(size_t n, bool framed, uint8_t *out)
 {
-    static uint8_t data[LONGEST];
     size_t i;
     for (i = 0; i < n && i < 128; i++)
-        data[i] = (uint8_t)between(' ', '~');
-    return written(sudolog_write_io(some_member(), some_seconds(), some_nanoseconds(), data, n, framed, out, n + AROUND));
+        io_data[i] = (uint8_t)between(' ', '~');
+    return write_io_again(n, framed, out);
 }
 
 /* ---- streams ---- */
@@ -331,25 +338,28 @@ static void make_file(struct work *w, size_t records, size_t least, size_t most)
                                                  AROUND));
 }
 
-/* Another message, or one with another byte among its last ten, which are data. */
-static size_t alter(size_t n, size_t least, size_t most)
+/* The message of n bytes with data_n bytes of data becomes another: with other data, with the data's beginning, or with one other byte
+ * among the last ten, which are data. */
+static size_t alter(size_t n, size_t data_n)
 {
-    if (below(2) == 0)
-        return write_io(between(least, most), false, message);
-    message[n - 1 - below(10)] ^= 1;
-    return n;
+    switch (below(3)) {
+    case 0: return write_io(data_n, false, message);
+    case 1: return write_io_again(data_n - 1, false, message);
+    default: message[n - 1 - below(10)] ^= 1; return n;
+    }
 }
 
 /* Two unfinished files, the same or, where they differ, with one record of 16 changed in the second and one left out at its end. */
 static void make_pair(struct work *w, size_t records, size_t least, size_t most, bool differ)
 {
     struct recording first = begin_recording(records, most), second = begin_recording(records, most);
-    size_t i, n;
+    size_t i, data_n, n;
     for (i = 0; i < records; i++) {
-        n = write_io(between(least, most), false, message);
+        data_n = between(least, most);
+        n = write_io(data_n, false, message);
         take(&first, message, n);
         if (differ && below(16) == 0)
-            n = alter(n, least, most);
+            n = alter(n, data_n);
         if (!differ || i + 1 < records)
             take(&second, message, n);
     }
