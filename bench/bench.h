@@ -20,7 +20,8 @@ extern "C" {
 enum kind {
     STREAM,  /* messages that are read, and stored in an area */
     RECORDS, /* a file that is checked, and restarted */
-    POINTS   /* commit points that are written */
+    POINTS,  /* commit points that are written */
+    PAIRS    /* two files that are compared */
 };
 
 struct message {
@@ -43,7 +44,7 @@ struct work {
     const char *id;
     char title[64];
     enum kind kind;
-    size_t count;  /* messages, records or points in one pass */
+    size_t count;  /* messages, records, points or pairs of records in one pass */
     size_t rounds; /* how often a pass goes through the stream or the points; the area goes on from round to round */
 
     /* STREAM: frames one after the other. The session is opened by the accept `opening`; where that is empty each
@@ -63,12 +64,17 @@ struct work {
     struct point *points;
     size_t points_n;
 
+    /* PAIRS: the area has room for the entries and no more. */
+    struct message first;
+    struct message second;
+    bool differ;
+
     uint8_t *area;
     size_t area_n;
 };
 
 /* The works that there are, and one of them made; it ends the program where it can't. */
-enum { WORKS = 9 };
+enum { WORKS = 13 };
 const char *work_id(size_t which);
 struct work make_work(size_t which);
 void drop_work(struct work *w);
@@ -151,7 +157,8 @@ enum answer {
     STORED,    /* STREAM: the records in the area, and their length */
     CHECKED,   /* RECORDS: what the file is */
     RESTARTED, /* RECORDS: what a restart keeps */
-    WRITTEN    /* POINTS: the frames in the area, and their length */
+    WRITTEN,   /* POINTS: the frames in the area, and their length */
+    COMPARED   /* PAIRS: an entry for each record in the area, and their length */
 };
 
 struct contender {
@@ -160,7 +167,7 @@ struct contender {
     const char *title; /* who does it */
     enum answer answer;
     bool accepts_only; /* with I/O buffers it does no other work than a contender before it */
-    bool data_only;    /* lays no headers into the area */
+    bool data_only;    /* knows no records: lays no headers and no entries into the area, can't say in what files differ */
     uint64_t (*pass)(const struct work *w);
     uint64_t (*digest)(struct message m); /* of a reader */
 };
@@ -177,6 +184,7 @@ extern const struct contender library_beside[];
 #define CHECKS "file check"
 #define RESTARTS "restart in the middle"
 #define WRITES "commit points written"
+#define COMPARES "two files compared"
 
 #ifdef __cplusplus
 }

@@ -1,6 +1,6 @@
 /*
  * library.c: the library, through include/sudolog.h. bench/run --beside compiles this file twice, for two libraries:
- * CONTENDERS, ID and NAME tell them apart.
+ * CONTENDERS, ID and NAME tell them apart, and one whose header has no sudolog_compare_files is compiled WITHOUT_COMPARE.
  */
 #include "bench.h"
 #include "sudolog.h"
@@ -189,6 +189,17 @@ static uint64_t write_pass(const struct work *w)
     return refusals == 0 ? at : 0;
 }
 
+/* ---- two files ---- */
+
+#ifndef WITHOUT_COMPARE
+static uint64_t compare_pass(const struct work *w)
+{
+    uint64_t answer = sudolog_compare_files(w->first.bytes, w->first.n, w->first.n, w->second.bytes, w->second.n,
+                                            w->second.n, w->area, w->area_n);
+    return sudolog_written_refusal(answer) == 0 ? sudolog_written_size(answer) : 0;
+}
+#endif
+
 const struct contender CONTENDERS[] = {
     { ID "-scan", READS, NAME ", `sudolog_scan_client`", MEMBERS, false, false, scan_pass, scan_digest },
     { ID "-read", READS, NAME ", `sudolog_read_client_message`", MEMBERS, false, false, read_members_pass,
@@ -199,5 +210,8 @@ const struct contender CONTENDERS[] = {
     { ID "-check", CHECKS, NAME ", `sudolog_check_file`", CHECKED, false, false, check_pass, NULL },
     { ID "-restart", RESTARTS, NAME ", `sudolog_take_message`", RESTARTED, false, false, restart_pass, NULL },
     { ID "-write", WRITES, NAME ", `sudolog_write_time`", WRITTEN, false, false, write_pass, NULL },
+#ifndef WITHOUT_COMPARE
+    { ID "-compare", COMPARES, NAME ", `sudolog_compare_files`", COMPARED, false, false, compare_pass, NULL },
+#endif
     { NULL, NULL, NULL, MEMBERS, false, false, NULL, NULL },
 };

@@ -17,7 +17,7 @@
 #include <string.h>
 #include <time.h>
 
-enum { MOST = 32, ANSWERS = WRITTEN + 1 };
+enum { MOST = 32, ANSWERS = COMPARED + 1 };
 
 struct result {
     bool timed;
@@ -49,7 +49,7 @@ static void gather_row(const char *row, const struct contender *c)
 /* In the order of the tables' rows. */
 static void gather(void)
 {
-    static const char *const rows[] = { READS, READS_ALL, STORES, CHECKS, RESTARTS, WRITES };
+    static const char *const rows[] = { READS, READS_ALL, STORES, CHECKS, RESTARTS, COMPARES, WRITES };
     size_t i;
     for (i = 0; i < sizeof rows / sizeof rows[0]; i++) {
         gather_row(rows[i], protobuf_c);
@@ -64,13 +64,13 @@ static void gather(void)
 
 static enum kind kind_of(enum answer answer)
 {
-    static const enum kind kinds[ANSWERS] = { STREAM, STREAM, STREAM, RECORDS, RECORDS, POINTS };
+    static const enum kind kinds[ANSWERS] = { STREAM, STREAM, STREAM, RECORDS, RECORDS, POINTS, PAIRS };
     return kinds[answer];
 }
 
 static bool takes(const struct contender *c, const struct work *w)
 {
-    return kind_of(c->answer) == w->kind;
+    return kind_of(c->answer) == w->kind && !(c->data_only && w->differ);
 }
 
 /* Is it timed: not where it does the same as another contender. */
@@ -91,11 +91,12 @@ static size_t contender_of(const char *id)
 
 /* ---- the comparison ---- */
 
-/* The contender that others with the same answer are held against: protobuf-c, or the library where it has none. */
+/* The contender that others with the same answer are held against: protobuf-c, or the library where it has none. A library beside may
+ * be from before the comparison of files: there it is C by hand. */
 static const struct contender *reference_for(enum answer answer)
 {
-    static const char *const ids[ANSWERS] = { "protobuf-c",    "protobuf-c-values", "library-store",
-                                              "library-check", "library-restart",   "protobuf-c-pack" };
+    static const char *const ids[ANSWERS] = { "protobuf-c",      "protobuf-c-values", "library-store", "library-check",
+                                              "library-restart", "protobuf-c-pack",   "hand-compare" };
     return all[contender_of(ids[answer])];
 }
 
@@ -137,7 +138,7 @@ static size_t compare(const struct work *w)
             stop("answers another sum", w->id, c->id);
         if (c->digest != NULL)
             compare_digests(w, c, reference);
-        if (c->answer == STORED || c->answer == WRITTEN)
+        if (c->answer == STORED || c->answer == WRITTEN || c->answer == COMPARED)
             compare_areas(w, c, reference);
         held += c != reference;
     }
@@ -221,23 +222,31 @@ static void run_work(size_t which, size_t repetitions, FILE *log)
 
 /* ---- the tables ---- */
 
-static void print_ratio(double ratio)
+static void print_figure(double figure)
 {
-    printf(ratio >= 100 ? "%.0f" : ratio >= 10 ? "%.1f" : "%.2f", ratio);
+    printf(figure >= 100 ? "%.0f" : figure >= 10 ? "%.1f" : "%.2f", figure);
 }
 
-/* How many times as fast as the base, or, where `slower`, how many times its time: by medians, and by bests. */
-static void print_cell(size_t which, size_t i, size_t base, bool slower)
+/* What a table's cells say: how many times as fast as the base, how many times its time, or nanoseconds for each in a pass. */
+enum measure { SPEED, TIME, EACH };
+
+static double figure(double time, double base, size_t count, enum measure measure)
+{
+    return measure == SPEED ? base / time : time / (measure == TIME ? base : (double)count);
+}
+
+/* By medians, and by bests. */
+static void print_cell(size_t which, size_t i, size_t base, enum measure measure)
 {
     const struct result *r = &results[which][i], *b = &results[which][base];
-    if (!r->timed) {
+    if (!r->timed || !b->timed) {
         printf(" - |");
         return;
     }
     printf(" ");
-    print_ratio(slower ? r->median / b->median : b->median / r->median);
+    print_figure(figure(r->median, b->median, made[which].count, measure));
     printf(" (");
-    print_ratio(slower ? r->best / b->best : b->best / r->best);
+    print_figure(figure(r->best, b->best, made[which].count, measure));
     printf(") |");
 }
 
@@ -255,26 +264,26 @@ static void print_head(const char *first, enum kind kind)
     printf("\n");
 }
 
-static void print_row(size_t i, enum kind kind, size_t base, bool slower)
+static void print_row(size_t i, enum kind kind, size_t base, enum measure measure)
 {
     bool first = i == 0 || strcmp(all[i]->row, all[i - 1]->row) != 0;
     size_t which;
     printf("| %s | %s |", first ? all[i]->row : "", all[i]->title);
     for (which = 0; which < WORKS; which++)
         if (made[which].kind == kind)
-            print_cell(which, i, base, slower);
+            print_cell(which, i, base, measure);
     printf("\n");
 }
 
-/* The contenders with these answers, as multiples of one of them. */
-static void print_speeds(const char *first, enum answer least, enum answer most, const char *base)
+/* The contenders with these answers, beside one of them. */
+static void print_table(const char *first, enum answer least, enum answer most, const char *base, enum measure measure)
 {
     enum kind kind = kind_of(least);
     size_t i;
     print_head(first, kind);
     for (i = 0; i < all_n; i++)
         if (least <= all[i]->answer && all[i]->answer <= most)
-            print_row(i, kind, contender_of(base), false);
+            print_row(i, kind, contender_of(base), measure);
 }
 
 /* The contenders of a file's work against the one by hand that has the same answer. */
@@ -284,7 +293,7 @@ static void print_file_times(void)
     print_head("time, as a multiple of the walk by hand", RECORDS);
     for (i = 0; i < all_n; i++)
         if (kind_of(all[i]->answer) == RECORDS)
-            print_row(i, RECORDS, contender_of(all[i]->answer == CHECKED ? "hand-check" : "hand-restart"), true);
+            print_row(i, RECORDS, contender_of(all[i]->answer == CHECKED ? "hand-check" : "hand-restart"), TIME);
 }
 
 static int time_all(size_t repetitions, const char *path)
@@ -296,10 +305,13 @@ static int time_all(size_t repetitions, const char *path)
     for (which = 0; which < WORKS; which++)
         run_work(which, repetitions, log);
     fclose(log);
-    print_speeds("speed, as a multiple of protobuf-c's unpack", MEMBERS, STORED, "protobuf-c");
-    print_speeds("speed, as a multiple of memcpy into the same area", STORED, STORED, "memcpy");
+    print_table("speed, as a multiple of protobuf-c's unpack", MEMBERS, STORED, "protobuf-c", SPEED);
+    print_table("speed, as a multiple of memcpy into the same area", STORED, STORED, "memcpy", SPEED);
     print_file_times();
-    print_speeds("speed, as a multiple of protobuf-c's pack", WRITTEN, WRITTEN, "protobuf-c-pack");
+    print_table("speed, as a multiple of memcmp of both files", COMPARED, COMPARED, "memcmp", SPEED);
+    print_table("time, as a multiple of the comparison by hand", COMPARED, COMPARED, "hand-compare", TIME);
+    print_table("nanoseconds for each pair of records", COMPARED, COMPARED, "hand-compare", EACH);
+    print_table("speed, as a multiple of protobuf-c's pack", WRITTEN, WRITTEN, "protobuf-c-pack", SPEED);
     fprintf(stderr, "bench: all answers together: %llu\n", (unsigned long long)sink);
     return 0;
 }
@@ -309,7 +321,7 @@ static int time_all(size_t repetitions, const char *path)
 /* Not the works that are long to make under valgrind. */
 static bool is_counted(size_t which)
 {
-    static const char *const left_out[] = { "large", "file", "file-empty" };
+    static const char *const left_out[] = { "large", "file", "file-empty", "pair-large", "pair" };
     size_t i;
     for (i = 0; i < sizeof left_out / sizeof left_out[0]; i++)
         if (strcmp(work_id(which), left_out[i]) == 0)
@@ -329,7 +341,7 @@ static struct work make_short(size_t which)
 
 static void print_pair(const struct contender *c, const struct work *w)
 {
-    static const char *const units[] = { "message", "record", "commit point" };
+    static const char *const units[] = { "message", "record", "commit point", "pair of records" };
     printf("%s\t%s\t%s\t%zu\t%s\t%s\t%s\n", units[w->kind], w->id, c->id, w->count, w->title, c->row, c->title);
 }
 

@@ -196,13 +196,20 @@ static uint64_t some_member(void)
     return members[below(sizeof members)];
 }
 
+static uint8_t io_data[LONGEST];
+
+/* With n bytes of the data that are there. */
+static size_t write_io_again(size_t n, bool framed, uint8_t *out)
+{
+    return written(sudolog_write_io(some_member(), some_seconds(), some_nanoseconds(), io_data, n, framed, out, n + AROUND));
+}
+
 static size_t write_io(size_t n, bool framed, uint8_t *out)
 {
-    static uint8_t data[LONGEST];
     size_t i;
     for (i = 0; i < n && i < 128; i++)
-        data[i] = (uint8_t)between(' ', '~');
-    return written(sudolog_write_io(some_member(), some_seconds(), some_nanoseconds(), data, n, framed, out, n + AROUND));
+        io_data[i] = (uint8_t)between(' ', '~');
+    return write_io_again(n, framed, out);
 }
 
 /* ---- streams ---- */
@@ -282,35 +289,87 @@ static uint64_t total_of(const struct sudolog_session *session)
     return sudolog_big_endian(session->bytes + 16);
 }
 
-static void take(struct work *w, struct sudolog_session *session, const uint8_t *m, size_t n)
+/* A session and its file. */
+struct recording {
+    struct sudolog_session session;
+    uint8_t *area;
+    size_t area_n;
+    size_t used;
+};
+
+static void take(struct recording *r, const uint8_t *m, size_t n)
 {
     struct sudolog_answer answer;
-    if (sudolog_take_message(session, m, n, w->area, w->area_n, w->used, &answer) != 0)
+    if (sudolog_take_message(&r->session, m, n, r->area, r->area_n, r->used, &answer) != 0)
         stop("a record of the work is refused");
-    w->used = answer.used;
+    r->used = answer.used;
+}
+
+static uint8_t message[LONGEST + AROUND];
+
+/* With the accept stored, and room for records with data up to `most` bytes. */
+static struct recording begin_recording(size_t records, size_t most)
+{
+    struct recording r = { .session = sudolog_new_session(), .area_n = ACCEPT_ROOM + records * (HEADER + most) };
+    r.area = room_for(r.area_n);
+    take(&r, message, real_accept(message, sizeof message));
+    return r;
 }
 
 /* An unfinished file, and a restart at the total that it has in the middle. */
 static void make_file(struct work *w, size_t records, size_t least, size_t most)
 {
-    static uint8_t message[LONGEST + AROUND];
+    struct recording r = begin_recording(records, most);
     uint8_t *restart = room_for(AROUND);
-    struct sudolog_session session = sudolog_new_session();
     size_t i;
+    for (i = 0; i < records; i++) {
+        take(&r, message, write_io(between(least, most), false, message));
+        if (i == records / 2)
+            w->resume = total_of(&r.session);
+    }
     w->kind = RECORDS;
     w->count = records;
-    w->area_n = ACCEPT_ROOM + records * (HEADER + most);
-    w->area = room_for(w->area_n);
-    take(w, &session, message, real_accept(message, sizeof message));
-    for (i = 0; i < records; i++) {
-        take(w, &session, message, write_io(between(least, most), false, message));
-        if (i == records / 2)
-            w->resume = total_of(&session);
-    }
+    w->area = r.area;
+    w->area_n = r.area_n;
+    w->used = r.used;
     w->restart.bytes = restart;
     w->restart.n = written(sudolog_write_restart(SUDOLOG_FROM_CLIENT_RESTART, SUDOLOG_LEND_STRING("id"),
                                                  w->resume / 1000000000, w->resume % 1000000000, false, restart,
                                                  AROUND));
+}
+
+/* The message of n bytes with data_n bytes of data becomes another: with other data, with the data's beginning, or with one other byte
+ * among the last ten, which are data. */
+static size_t alter(size_t n, size_t data_n)
+{
+    switch (below(3)) {
+    case 0: return write_io(data_n, false, message);
+    case 1: return write_io_again(data_n - 1, false, message);
+    default: message[n - 1 - below(10)] ^= 1; return n;
+    }
+}
+
+/* Two unfinished files, the same or, where they differ, with one record of 16 changed in the second and one left out at its end. */
+static void make_pair(struct work *w, size_t records, size_t least, size_t most, bool differ)
+{
+    struct recording first = begin_recording(records, most), second = begin_recording(records, most);
+    size_t i, data_n, n;
+    for (i = 0; i < records; i++) {
+        data_n = between(least, most);
+        n = write_io(data_n, false, message);
+        take(&first, message, n);
+        if (differ && below(16) == 0)
+            n = alter(n, data_n);
+        if (!differ || i + 1 < records)
+            take(&second, message, n);
+    }
+    w->kind = PAIRS;
+    w->count = records;
+    w->differ = differ;
+    w->first = (struct message){ first.area, first.used };
+    w->second = (struct message){ second.area, second.used };
+    w->area_n = 8 * (1 + records);
+    w->area = room_for(w->area_n);
 }
 
 /* ---- commit points ---- */
@@ -343,6 +402,10 @@ static const char *const works[WORKS][2] = {
     { "file-short", "100,000 of 10 to 100 bytes" },
     { "file-large", "100,000 of 2,000 bytes" },
     { "points", "commit points" },
+    { "pair-large", "512 records of 64 KiB" },
+    { "pair", "1,000,000 of 10 to 100 bytes" },
+    { "pair-quarter", "250,000 of 10 to 100 bytes" },
+    { "pair-differ", "250,000, one of 16 differs" },
 };
 
 const char *work_id(size_t which)
@@ -363,7 +426,11 @@ struct work make_work(size_t which)
     case 5: make_file(&w, 1000000, 0, 0); break;
     case 6: make_file(&w, 100000, 10, 100); break;
     case 7: make_file(&w, 100000, 2000, 2000); break;
-    default: make_points(&w, 10000, 4); break;
+    case 8: make_points(&w, 10000, 4); break;
+    case 9: make_pair(&w, 512, LONGEST, LONGEST, false); break;
+    case 10: make_pair(&w, 1000000, 10, 100, false); break;
+    case 11: make_pair(&w, 250000, 10, 100, false); break;
+    default: make_pair(&w, 250000, 10, 100, true); break;
     }
     return w;
 }
@@ -376,4 +443,6 @@ void drop_work(struct work *w)
     free(w->area);
     free((void *)w->opening.bytes);
     free((void *)w->restart.bytes);
+    free((void *)w->first.bytes);
+    free((void *)w->second.bytes);
 }
