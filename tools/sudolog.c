@@ -266,7 +266,10 @@ static void put_exit(const uint8_t *data, size_t n, const struct sudolog_exit *e
 
 static void put_window_size(const struct sudolog_window_size *size)
 {
-    printf("4 bytes: %" PRId32 " rows, %" PRId32 " columns", size->rows, size->cols);
+    fputs("4 bytes: ", stdout);
+    put_count((size_t)size->rows, "row");
+    fputs(", ", stdout);
+    put_count((size_t)size->cols, "column");
 }
 
 /* The data in the words of their kind, or as they are where they have no such form. */
@@ -399,9 +402,9 @@ static void put_refused(const struct file *file, const struct walk *walk)
     }
     put_sums(walk);
     if (behind > 0) {
-        fputs(", then ", stdout);
+        fputs(", and ", stdout);
         put_count(behind, "byte");
-        fputs(" that are none", stdout);
+        fputs(" behind them", stdout);
     }
 }
 
