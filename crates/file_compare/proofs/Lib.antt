@@ -5,3 +5,4 @@ pub mod Places
 pub mod Sides
 pub mod Turns
 pub mod Sizes
+pub mod Walks

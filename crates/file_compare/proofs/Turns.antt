@@ -1,4 +1,4 @@
--- The walks over the records of one file and of two: each turn takes one record of those that are left.
+-- The walk over the records of two files: each turn takes one record of those that are left.
 use mathlib.Core.Path.{_≡_, refl, sym, ap, subst, _∙_}
 use mathlib.Core.List.{List, [], _∷_, _++_, append-assoc, append-nil}
 use Prim.Native.Nat.{ℕ, _+_, _*_, _≤_, _<_, max}
@@ -18,36 +18,6 @@ use Rattle.file_compare.specs.declared.pair.Step.{Step}
 use Rattle.file_compare.proofs.Entries.{parting-within, at-most, one-more}
 use Rattle.file_compare.proofs.Places.{Left, left-start, left-cons, left-nil}
 use Rattle.file_compare.proofs.Sides.{one-each}
-
--- ---- the count of one file's records
-
-abbrev pub Counting : List ℕ → ℕ → ℕ → List Record → Type 0
-Counting s at count rs = (qs : List Record) × Left s at qs × (length rs ≡ count + length qs)
-
-pub count-start : (s : List ℕ) (rs : List Record) → recordsOf s ≡ all rs → Counting s 0 0 rs
-count-start s rs e = (rs, left-start s rs e, omega arith)
-
--- where nothing is found, none are left
-pub count-end : (s : List ℕ) (at count : ℕ) (rs : List Record) → headOf (recordAt s at) ≡ head.Broken → Counting s at count rs → count ≡ length rs
-count-end s at count rs e ([], l, n) = omega arith
-count-end s at count rs e (q ∷ qs, l, n) =
-    let (end, f, g) = left-cons s at q qs l in
-    let b : recordAt s at ≡ broken = broken-head s at e in
-    let z : _≡_ {A = ℕ} 0 1 = cc in
-    absurd (omega arith)
-
-pub count-more : (s : List ℕ) (at count kind delay len : ℕ) (rs : List Record) → headOf (recordAt s at) ≡ head.Whole kind delay len
-    → Counting s at count rs → Counting s (at + 11 + len) (count + 1) rs
-count-more s at count kind delay len rs e ([], l, n) =
-    let f = whole-head s at kind delay len e in
-    let b : recordAt s at ≡ broken = left-nil s at l in
-    let z : _≡_ {A = ℕ} 0 1 = cc in
-    absurd (omega arith)
-count-more s at count kind delay len rs e (q ∷ qs, l, n) =
-    let (end, f, g) = left-cons s at q qs l in
-    let h = whole-head s at kind delay len e in
-    let d : end ≡ at + 11 + len = cc in
-    (qs, subst (λ (k : ℕ). Left s k qs) d g, omega arith)
 
 -- ---- a step over two files, by the heads
 

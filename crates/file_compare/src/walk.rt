@@ -1,8 +1,6 @@
-// The walks over the records of one file and of two.
+// The walk over the records of two files.
 use crate::pair::step_on;
 use base_numbers::put;
-use file_format::head::Head;
-use file_format::head::head_at;
 ghost use mathlib.Core.Path.{_≡_};
 ghost use mathlib.Core.List.{List};
 ghost use Prim.Native.Nat.{_*_, _≤_, max};
@@ -11,29 +9,6 @@ ghost use Rattle.base_laws.specs.Base.{splice};
 ghost use Rattle.file_format.specs.Record.{Record};
 ghost use Rattle.file_format.specs.File.{all, recordsOf};
 ghost use Rattle.file_compare.specs.Compare.{differences, entryBytes};
-
-// How many records stand in a file, by their headers alone. Inner: `count_records` shows that the bytes are records.
-pub fn records_in(s: &[u8]) -> usize
-    ensures { λ r. ⌜ ((rs : List Record) → recordsOf (now (s .entry)) ≡ all rs → r ≡ length rs) ⌝ }
-{
-    let mut at: usize = 0;
-    let mut count: usize = 0;
-    loop {
-        match head_at(s, at) {
-            Head::Broken => {
-                return count;
-            }
-            Head::Whole {
-                kind: _,
-                delay: _,
-                len,
-            } => {
-                at = at + 11 + len;
-                count += 1;
-            }
-        }
-    }
-}
 
 // Stores the entries of two files from the buffer's start on, where the longer has `count` records. Inner: `compare_files` shows that
 // the bytes are records, and the room.
