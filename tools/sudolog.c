@@ -6,7 +6,7 @@
  * a file name's, is printed through sudolog_escape, so that none reaches the terminal as it is. From below: output, reading,
  * the walk over a file, a record's line, the three commands. The script ./sudolog builds and runs it.
  */
-#define _POSIX_C_SOURCE 200809L
+#define _DEFAULT_SOURCE
 
 #include "sudolog.h"
 
@@ -15,6 +15,7 @@
 #include <inttypes.h>
 #include <stdio.h>
 #include <stdlib.h>
+#include <sys/mman.h>
 #include <sys/stat.h>
 #include <unistd.h>
 
@@ -130,12 +131,29 @@ static size_t first_room(int from)
     return (uintmax_t)about.st_size < most_bytes ? (size_t)about.st_size + 1 : most_bytes;
 }
 
+/* Most of the time for a large file is the first touch of its pages: so large ones, where the system has them. It is a wish, and
+ * may fail. */
+static void wish_large_pages(uint8_t *bytes, size_t room)
+{
+#ifdef MADV_HUGEPAGE
+    const size_t worth = 4194304;
+    uintptr_t page = (uintptr_t)sysconf(_SC_PAGESIZE);
+    uintptr_t from = ((uintptr_t)bytes + page - 1) / page * page, to = ((uintptr_t)bytes + room) / page * page;
+    if (room >= worth)
+        madvise((void *)from, to - from, MADV_HUGEPAGE);
+#else
+    (void)bytes;
+    (void)room;
+#endif
+}
+
 static bool grow(struct file *file, size_t room)
 {
     uint8_t *bytes = realloc(file->bytes, room);
     if (bytes == NULL)
         return false;
     file->bytes = bytes;
+    wish_large_pages(bytes, room);
     return true;
 }
 
