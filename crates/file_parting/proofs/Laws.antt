@@ -64,11 +64,12 @@ more-agree : (a b : List ℕ) (at k : ℕ) → Agree a b at k → getD a (at + k
 more-agree a b at k h e i l =
     ⊎-elim (λ (lt : i < k). h i lt) (λ (le : k ≤ i). let z : k ≡ i = omega arith in subst (λ (n : ℕ). getD a (at + n) 0 ≡ getD b (at + n) 0) z e) (lt-or-le i k)
 
--- where nothing is noted after one byte more, the block agrees that far
-pub noted-more : (a b : List ℕ) (at k d : ℕ) → (d ≡ 0 → Agree a b at k) → pick (eqb (getD a (at + k) 0) (getD b (at + k) 0)) d 1 ≡ 0 → Agree a b at (k + 1)
-noted-more a b at k d h =
-    picked (λ (n : ℕ). n ≡ 0 → Agree a b at (k + 1)) (eqb (getD a (at + k) 0) (getD b (at + k) 0)) d 1
-    (λ t z. more-agree a b at k (h z) (eqb-true (getD a (at + k) 0) (getD b (at + k) 0) t)) (λ t z. absurd (omega arith))
+-- where nothing is noted after one byte more, nothing was noted before the block and it agrees that far
+pub noted-more : (a b : List ℕ) (at k d n : ℕ) → (n ≡ 0 → (d ≡ 0) × Agree a b at k) → pick (eqb (getD a (at + k) 0) (getD b (at + k) 0)) n 1 ≡ 0
+    → (d ≡ 0) × Agree a b at (k + 1)
+noted-more a b at k d n h =
+    picked (λ (m : ℕ). m ≡ 0 → (d ≡ 0) × Agree a b at (k + 1)) (eqb (getD a (at + k) 0) (getD b (at + k) 0)) n 1
+    (λ t z. (h z .0, more-agree a b at k (h z .1) (eqb-true (getD a (at + k) 0) (getD b (at + k) 0) t))) (λ t z. absurd (omega arith))
 
 -- ---- blocks laid over each other
 
@@ -80,6 +81,12 @@ joined a b i at k f h g j l =
     let z : at + (j - at) ≡ 0 + j = omega arith in
     subst (λ (x : ℕ). getD a x 0 ≡ getD b x 0) z (g (j - at) (omega arith)))
     (lt-or-le j i)
+
+-- two blocks, one behind the other
+pub twice-joined : (a b : List ℕ) (i at : ℕ) → Agree a b 0 i → at ≤ i → Agree a b at 16 → Agree a b (at + 16) 16 → Agree a b 0 (at + 32)
+twice-joined a b i at f h g k =
+    let z : at + 16 + 16 ≡ at + 32 = omega arith in
+    subst (Agree a b 0) z (joined a b (at + 16) (at + 16) 16 (joined a b i at 16 f h g) (omega arith) k)
 
 -- where all before a place agrees, the rest decides
 pub from-there : (a b : List ℕ) (i at : ℕ) → Agree a b 0 i → at ≤ i → at ≤ length a → at ≤ length b → at + parting (drop at a) (drop at b) ≡ parting a b

@@ -14,32 +14,19 @@ fn noted(d: u8, x: u8, y: u8) -> u8
     if x == y { d } else { 1 }
 }
 
-// Do 32 bytes from a place on differ. The loop is not left early and what it notes is a byte: so the compiler compares 16 bytes at once.
-fn differ_32(a: &[u8], b: &[u8], at: usize) -> bool
-    requires { ⌜ (at + 32 ≤ length (now a)) × (at + 32 ≤ length (now b)) ⌝ }
-    ensures { λ r. ⌜ (r ≡ false → Agree (now (a .entry)) (now (b .entry)) at 32) ⌝ }
-{
-    let mut d: u8 = 0;
-    let mut k: usize = 0;
-    while k < 32 {
-        d = noted(d, a[at + k], b[at + k]);
-        k += 1;
-    }
-    d != 0
-}
-
-// The same of 16 bytes: a loop with its number of turns written out is one comparison, and one with a number that is handed in is not.
-fn differ_16(a: &[u8], b: &[u8], at: usize) -> bool
+// 1 where one of 16 bytes from a place on differs, else what was noted before. The loop is not left early and what it notes is a byte: so the
+// compiler makes one comparison of it.
+fn block(d: u8, a: &[u8], b: &[u8], at: usize) -> u8
     requires { ⌜ (at + 16 ≤ length (now a)) × (at + 16 ≤ length (now b)) ⌝ }
-    ensures { λ r. ⌜ (r ≡ false → Agree (now (a .entry)) (now (b .entry)) at 16) ⌝ }
+    ensures { λ r. ⌜ (r ≡ 0 → (d ≡ 0) × Agree (now (a .entry)) (now (b .entry)) at 16) ⌝ }
 {
-    let mut d: u8 = 0;
+    let mut n = d;
     let mut k: usize = 0;
     while k < 16 {
-        d = noted(d, a[at + k], b[at + k]);
+        n = noted(n, a[at + k], b[at + k]);
         k += 1;
     }
-    d != 0
+    n
 }
 
 // The place where two slices part, looked for byte by byte from a place on.
@@ -66,8 +53,8 @@ fn shorter(x: usize, y: usize) -> usize
     if x < y { x } else { y }
 }
 
-// Where two slices part, by blocks of 32. The last block is laid over the end, so that it goes over some bytes a second time and none is
-// left to be looked at by itself.
+// Where two slices part, by 32 bytes at a time. The last 32 are laid over the end, so that some bytes are looked at a second time and none
+// by itself.
 fn by_blocks(a: &[u8], b: &[u8], n: usize) -> usize
     requires { ⌜ (32 ≤ n) × (n ≡ min (length (now a)) (length (now b))) ⌝ }
     ensures { λ r. ⌜ r ≡ parting (now (a .entry)) (now (b .entry)) ⌝ }
@@ -75,7 +62,7 @@ fn by_blocks(a: &[u8], b: &[u8], n: usize) -> usize
     let mut i: usize = 0;
     while i < n {
         let at = shorter(i, n - 32);
-        if differ_32(a, b, at) {
+        if block(block(0, a, b, at), a, b, at + 16) != 0 {
             return parting_from(a, b, at);
         }
         i = at + 32;
@@ -83,16 +70,13 @@ fn by_blocks(a: &[u8], b: &[u8], n: usize) -> usize
     n
 }
 
-// The same where there is no room for 32: the first 16 bytes, and the last.
+// The same of fewer than 32: the first 16 bytes, and the last.
 fn by_two_blocks(a: &[u8], b: &[u8], n: usize) -> usize
     requires { ⌜ (16 ≤ n) × (n ≤ 32) × (n ≡ min (length (now a)) (length (now b))) ⌝ }
     ensures { λ r. ⌜ r ≡ parting (now (a .entry)) (now (b .entry)) ⌝ }
 {
-    if differ_16(a, b, 0) {
+    if block(block(0, a, b, 0), a, b, n - 16) != 0 {
         return parting_from(a, b, 0);
-    }
-    if differ_16(a, b, n - 16) {
-        return parting_from(a, b, 16);
     }
     n
 }

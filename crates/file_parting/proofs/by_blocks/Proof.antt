@@ -1,11 +1,11 @@
--- The loop keeps: the bytes before i agree. A block that does not differ is Laws.joined; where one differs the place is
+-- The loop keeps: the bytes before i agree. A block that does not differ is Laws.twice-joined; where one differs the place is
 -- parting_from's by Laws.from-there, and where none does it is the end by Laws.at-the-end.
 use mathlib.Core.Path.{_≡_, _∙_}
 use Prim.Native.Nat.{_-_, _≤_}
 use native.Mathlib.Omega.{arith}
 use borrow.Author.Needs.{needs}
 use Rattle.file_parting.specs.Parting.{Agree}
-use Rattle.file_parting.proofs.Laws.{joined, from-there, at-the-end}
+use Rattle.file_parting.proofs.Laws.{twice-joined, from-there, at-the-end}
 use Rattle.file_parting.proofs.by_blocks.Statement.{statement}
 use Rattle.file_parting.proofs.by_blocks.Tie as tie
 
@@ -20,7 +20,7 @@ loop-holds c = (omega arith, λ j l. absurd (omega arith))
 
 returns : tie.Need-returns Inv-loop μ-loop
 returns c =
-    let at-shorter = c .before .before .before in
+    let at-shorter = c .before .before .before .before in
     let at-loop = at-shorter .before .before in
     let at-start = at-loop .before .before .before in
     let a = at-start .args in
@@ -30,11 +30,14 @@ returns c =
 
 loop-again : tie.Need-loop-again Inv-loop μ-loop
 loop-again c =
-    let at-shorter = c .before .before in
+    let at-block = c .before .before in
+    let at-shorter = at-block .before in
     let at-loop = at-shorter .before .before in
-    let a = at-loop .before .before .before .args in (
-      omega (arith, at-shorter .shorter .ensures, at-loop .before .before .before .pre .0),
-      joined (a .a .now) (a .b .now) (at-loop .loop .i) _ 32 (at-loop .loop .inv .1) (omega (arith, at-shorter .shorter .ensures)) (c .before .differ-32 .ensures (c .if1 .left)),
+    let at-start = at-loop .before .before .before in
+    let a = at-start .args in
+    let second = c .before .block2 .ensures (c .if1 .left) in (
+      omega (arith, at-shorter .shorter .ensures, at-start .pre .0),
+      twice-joined (a .a .now) (a .b .now) (at-loop .loop .i) _ (at-loop .loop .inv .1) (omega (arith, at-shorter .shorter .ensures)) (at-block .block .ensures (second .0) .1) (second .1),
     )
 
 returns-2 : tie.Need-returns-2 Inv-loop μ-loop
@@ -53,6 +56,8 @@ by-blocks-spec =
     loop-holds
     (λ c. search needs)
     (λ c κs. search needs)
+    (λ c κs. search needs)
+    (λ c. search needs)
     (λ c κs. search needs)
     (λ c κs. search needs)
     returns

@@ -14,31 +14,22 @@ returns c = c .parting-from .ensures ∙ from-there _ _ 0 0 (λ j l. absurd (ome
 
 returns-2 : tie.Need-returns-2
 returns-2 c =
-    let at-if1 = c .before .before .before in
-    let at-start = at-if1 .before .before .before .before in
+    let at-block = c .before .before in
+    let at-start = at-block .before .before .before in
     let a = at-start .args in
-    c .parting-from2 .ensures
-    ∙ from-there (a .a .now) (a .b .now) 16 16 (at-if1 .before .differ-16 .ensures (at-if1 .if1 .left)) (omega arith) (omega (arith, at-start .pre .2)) (omega (arith, at-start .pre .2))
-
-returns-3 : tie.Need-returns-3
-returns-3 c =
-    let at-if1 = c .before .before in
-    let at-start = at-if1 .before .before .before .before in
-    let a = at-start .args in
+    let second = c .before .block2 .ensures (c .if1 .left) in
     let all : a .n - 16 + 16 ≡ a .n = omega (arith, at-start .pre .0) in
     at-the-end (a .a .now) (a .b .now) (a .n) (at-start .pre .2)
     (subst (Agree (a .a .now) (a .b .now) 0) all
-    (joined (a .a .now) (a .b .now) 16 (a .n - 16) 16 (at-if1 .before .differ-16 .ensures (at-if1 .if1 .left)) (omega (arith, at-start .pre .1)) (c .before .differ-162 .ensures (c .if2 .left))))
+    (joined (a .a .now) (a .b .now) 16 (a .n - 16) 16 (at-block .block .ensures (second .0) .1) (omega (arith, at-start .pre .1)) (second .1)))
 
 pub by-two-blocks-spec : {M : Type 1} → statement M
 by-two-blocks-spec =
     tie.close
     (tie.spec
     (λ c κs. search needs)
-    (λ c κs. search needs)
-    returns
     (λ c. search needs)
     (λ c κs. search needs)
     (λ c κs. search needs)
-    returns-2
-    returns-3)
+    returns
+    returns-2)
