@@ -1,6 +1,6 @@
 -- The loop keeps: the bytes before i agree. A block that does not differ is Laws.twice-joined; where one differs the place is
 -- parting_from's by Laws.from-there, and where none does it is the end by Laws.at-the-end.
-use mathlib.Core.Path.{_≡_, _∙_}
+use mathlib.Core.Path.{_∙_}
 use Prim.Native.Nat.{_-_, _≤_}
 use native.Mathlib.Omega.{arith}
 use borrow.Author.Needs.{needs}
