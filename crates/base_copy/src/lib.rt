@@ -1,4 +1,6 @@
 // Copies of bytes into an area that the caller lends.
+#![tactic(auto)]
+
 pub mod block;
 
 ghost use Rattle.std.specs.Prelude.{◌≡◌, ◌+◌, ◌*◌, ◌/◌, ◌≤◌, length, take};

@@ -1,5 +1,6 @@
 // General laws of lists and numbers: nothing here knows of sudo. The laws stand in proofs/, the notions
 // that other crates' definitions share in specs/.
+#![tactic(auto)]
 
 // A byte as a wider number. `wide(s[i])` requires only that the index is in range, where `s[i] as u64` would
 // also require a proof that the byte fits.

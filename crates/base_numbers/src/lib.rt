@@ -1,5 +1,7 @@
 // Numbers laid into a lent buffer, eight bytes each, most significant first, and read again: how several numbers go to C and
 // back, and how the header of a record is stored.
+#![tactic(auto)]
+
 ghost use Rattle.std.specs.Prelude.{◌≡◌, [], ◌∷◌, ◌+◌, ◌≤◌, ◌<◌, length, get_or, leb};
 ghost use Rattle.base_laws.specs.Base.{pick, splice};
 ghost use Rattle.base_numbers.specs.Eight.{eight, eights, laid, number_at, Small};

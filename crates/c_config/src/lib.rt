@@ -1,4 +1,6 @@
-// What C calls on a configuration. include/sudolog.h declares this function and says what it returns.
+// What C is to call on a configuration. Nothing exports it to C yet: the header that declares it is on the shelf (docs/shelf).
+#![tactic(auto)]
+
 ghost use Rattle.std.specs.Prelude.{◌≡◌, ◌≤◌, length};
 ghost use Rattle.base_laws.specs.Base.{splice};
 ghost use Rattle.base_numbers.specs.Eight.{eights};
@@ -36,8 +38,7 @@ fn put_seven(out: &mut [u8], line: usize, size: usize, v: Values)
 }
 
 // Reads a configuration: lists its settings and lays seven numbers.
-#[unsafe(no_mangle)]
-pub extern "C" fn sudolog_read_config(text: &[u8], out: &mut [u8], numbers: &mut [u8]) -> u8
+pub fn sudolog_read_config(text: &[u8], out: &mut [u8], numbers: &mut [u8]) -> u8
     ensures answer { result ≡ answer_with text.now out.old numbers.old }
     ensures out { out.new ≡ out_with text.now out.old numbers.old }
     ensures numbers { numbers.new ≡ numbers_with text.now out.old numbers.old }

@@ -1,5 +1,6 @@
 // What C calls to read: functions on numbers and byte slices alone. include/sudolog.h declares them and says what each one returns.
 // A `&[u8]` comes as a pointer and a length; a `&mut [u8]` is the buffer that the caller lends for more than one number.
+#![tactic(auto)]
 
 ghost use Rattle.std.specs.Prelude.{◌≡◌, length};
 ghost use Rattle.wire_frame.specs.Frame.{cut_of, frame_state, count_of};

@@ -1,4 +1,7 @@
-// The session and the file check for C. A session is kept as 40 bytes in a slice that the caller lends.
+// The session and the file check for C, which gets them from `c_session_c`. A session is kept as 40 bytes in a slice that the caller
+// lends.
+#![tactic(auto)]
+
 ghost use Rattle.std.specs.Prelude.{◌≡◌, length, eqb};
 ghost use Rattle.base_laws.specs.Base.{pick};
 ghost use Rattle.session.specs.Step as st;
@@ -11,8 +14,7 @@ use session_bytes::{load, save, state_number};
 use session_step::{check_file, message};
 
 // Keeps a new session in the slice: 0, or 12 where it is not of 40 bytes.
-#[unsafe(no_mangle)]
-pub extern "C" fn sudolog_session_open(slice: &mut [u8]) -> u8
+pub fn sudolog_session_open(slice: &mut [u8]) -> u8
     ensures answer { result ≡ pick (eqb (length slice.old) 40) 0 12 }
     ensures slice { slice.new ≡ kept st.new_session slice.old }
 {
@@ -41,8 +43,7 @@ fn point_number(p: Point) -> u64
 }
 
 // One message in the session that the slice keeps.
-#[unsafe(no_mangle)]
-pub extern "C" fn sudolog_session_message(
+pub fn sudolog_session_message(
     slice: &mut [u8],
     s: &[u8],
     area: &mut [u8],
@@ -76,8 +77,7 @@ pub extern "C" fn sudolog_session_message(
 }
 
 // The commit point of a tick in nanoseconds.
-#[unsafe(no_mangle)]
-pub extern "C" fn sudolog_session_tick(slice: &[u8]) -> u64
+pub fn sudolog_session_tick(slice: &[u8]) -> u64
     ensures { result ≡ tick_number (st.tick (session_of slice.now)) }
 {
     match tick(load(slice)) {
@@ -87,8 +87,7 @@ pub extern "C" fn sudolog_session_tick(slice: &[u8]) -> u64
 }
 
 // What the used bytes of an area are as a file.
-#[unsafe(no_mangle)]
-pub extern "C" fn sudolog_check_file(area: &[u8], used: usize) -> u8
+pub fn sudolog_check_file(area: &[u8], used: usize) -> u8
     ensures { result ≡ file_number (st.file_check area.now used) }
 {
     match check_file(area, used) {

@@ -1,5 +1,6 @@
 // What C calls to get at values: the fields of a message and the elements of a list, one by one. include/sudolog.h declares these functions and
 // says what each one returns. They take numbers and byte slices alone, as those of `c_read` do.
+#![tactic(auto)]
 
 ghost use Rattle.std.specs.Prelude.{◌≡◌, ◌-◌, length};
 ghost use Rattle.wire_fields.specs.Fields.{fields_at, number_in, span_in, first_of};

@@ -1,4 +1,6 @@
 // The writers for C. Each returns one number: how many bytes it wrote in the low 32 bits, its refusal above them.
+#![tactic(auto)]
+
 ghost use Rattle.std.specs.Prelude.{◌≡◌, true, [], ◌∷◌, length};
 ghost use Rattle.wire_message.specs.Signed.{bool};
 ghost use Rattle.c_write.specs.Answer.{as_number};

@@ -1,1 +1,3 @@
+#![tactic(auto)]
+
 // Written messages read again, as definitions and theorems on them: there is no code here.

@@ -1,4 +1,6 @@
 // What a line of a configuration is: nothing, a section's header, a setting, or bad. Inner: cursors are sound (conf_lines).
+#![tactic(auto)]
+
 ghost use Rattle.std.specs.Prelude.{◌≡◌, false, ◌<◌, drop, eqb};
 ghost use Rattle.conf_lines.specs.Scan.{Sound};
 ghost use Rattle.conf_lines.specs.Span.{joined_from};
@@ -9,7 +11,7 @@ use conf_lines::{Cursor, Step, is_blank, next_byte};
 
 // What one pass over a line's bytes notes: how many there are, and how many up to the last that is no blank; the first, and the last that
 // is no blank; whether there is a `=`, how long the key before the first one is, and where the value behind it begins.
-#[derive(Drop)]
+#[derive(Clone, Copy)]
 pub struct Measure {
     pub count: usize,
     pub length: usize,

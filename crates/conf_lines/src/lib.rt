@@ -1,5 +1,7 @@
 // The lines of a configuration text, byte by byte: `;` lines, comments and joins are passed over here, so that callers see the bytes that count.
 // Inner: a cursor has passed no more line feeds than bytes, which the functions require and keep.
+#![tactic(auto)]
+
 pub mod span;
 
 ghost use Rattle.std.specs.Prelude.{◌≡◌, Bool, true, false, ◌+◌, ◌≤◌, ◌<◌, length, drop};
@@ -7,7 +9,7 @@ ghost use Rattle.conf_lines.specs.Lines.{is_blank, lead, is_remark};
 ghost use Rattle.conf_lines.specs.Scan.{Sound, piece_ends, scanned, passing, comment, Ended, Same, Stepped, Passed, Started};
 
 // A place in the text, and how many line feeds stand before it.
-#[derive(Drop)]
+#[derive(Clone, Copy)]
 pub struct Cursor {
     pub at: usize,
     pub feeds: usize,

@@ -1,4 +1,6 @@
 // One setting of the list, into a lent buffer. Inner: `put_..` requires the room, and returns the place after what it put.
+#![tactic(auto)]
+
 ghost use Rattle.std.specs.Prelude.{◌≡◌, Bool, ◌+◌, ◌≤◌, [], ◌∷◌, length};
 ghost use Rattle.base_copy.specs.Put.{Put};
 ghost use Rattle.conf_lines.specs.Span.{spanned, Within};
@@ -13,7 +15,7 @@ use conf_lines::{Cursor, Step, next_byte};
 use conf_typed::{Section, cased_byte};
 
 // Whether all so far has room, and how much of it is left.
-#[derive(Drop)]
+#[derive(Clone, Copy)]
 pub struct Room {
     pub fits: bool,
     pub left: usize,

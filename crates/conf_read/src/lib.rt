@@ -1,5 +1,7 @@
 // A configuration read in two passes over its text: the first finds the refusal, the typed values and whether the list has room, the second
 // writes the list, where the first refuses nothing. `read_config` is for hosts and requires nothing; the others are inner.
+#![tactic(auto)]
+
 pub mod survey;
 pub mod values;
 

@@ -15,7 +15,7 @@ use conf_list::{Room, room_after};
 use conf_typed::{Section, Typed, section_of, typed_of};
 
 // What is added up of the settings so far.
-#[derive(Drop)]
+#[derive(Clone, Copy)]
 pub struct Tally {
     pub values: Values,
     pub room: Room,

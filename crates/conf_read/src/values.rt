@@ -5,13 +5,13 @@ ghost use Rattle.conf_read.specs.Config.{defaults, link_with, maxseq_with, value
 use conf_typed::{Section, Typed};
 
 // What `server` and `relay` each have.
-#[derive(Drop)]
+#[derive(Clone, Copy)]
 pub struct Link {
     pub timeout: u64,
     pub keepalive: bool,
 }
 
-#[derive(Drop)]
+#[derive(Clone, Copy)]
 pub struct Values {
     pub server: Link,
     pub relay: Link,

@@ -1,4 +1,6 @@
 // The sections' names and the typed settings. Inner: spans are those of a line (conf_lines).
+#![tactic(auto)]
+
 ghost use Rattle.std.specs.Prelude.{◌≡◌, true, [], ◌∷◌, ◌+◌, ◌*◌, ◌-◌, ◌≤◌};
 ghost use Rattle.conf_lines.specs.Span.{spanned, Within};
 ghost use Rattle.conf_typed.specs.Typed.{is_digit, same, lower_byte, lower, section_of, timeout_of, maxseq_of, one_of, keepalive_of, link_typed, typed_of};
@@ -8,7 +10,7 @@ use conf_lines::span::Span;
 use conf_lines::{Cursor, Step, next_byte};
 
 // The six sections of the paper; `Unknown` for any other, and before the first header.
-#[derive(Drop)]
+#[derive(Clone, Copy)]
 pub enum Section {
     Server,
     Relay,
@@ -20,7 +22,7 @@ pub enum Section {
 }
 
 // What a setting is of the typed ones: none of them, one with its value, or one with a bad value.
-#[derive(Drop)]
+#[derive(Clone, Copy)]
 pub enum Typed {
     Untyped,
     Timeout(u64),

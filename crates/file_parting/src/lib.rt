@@ -1,4 +1,6 @@
 // Where two slices part.
+#![tactic(auto)]
+
 ghost use Rattle.std.specs.Prelude.{◌≡◌, ◌+◌, ◌≤◌, min, length, drop, eqb};
 ghost use Rattle.base_laws.specs.Base.{pick};
 ghost use Rattle.file_parting.specs.Parting.{parting, Agree};

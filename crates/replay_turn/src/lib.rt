@@ -1,5 +1,7 @@
 // What the replay program does with the bytes at hand, and the lines that it prints. The program itself only reads, writes and
 // moves its window on.
+#![tactic(auto)]
+
 ghost use Rattle.std.specs.Prelude.{◌≡◌, ◌≤◌, length};
 ghost use Rattle.replay_lines.specs.Wording.{written, line_length};
 ghost use Rattle.replay_window.specs.Window.{FrameWithin};

@@ -1,4 +1,6 @@
 // The window that a stream is read through.
+#![tactic(auto)]
+
 ghost use Rattle.std.specs.Prelude.{◌≡◌, ◌≤◌, length};
 ghost use Rattle.replay_window.specs.Window.{next_of, slid};
 

@@ -1,4 +1,6 @@
 // A session kept as 40 bytes in a slice that the host lends, so that a host in C carries it from call to call.
+#![tactic(auto)]
+
 ghost use Rattle.std.specs.Prelude.{◌≡◌, ◌-◌, length, leb, eqb};
 ghost use Rattle.base_laws.specs.Base.{pick, both};
 ghost use Rattle.file_format.specs.File.{limit};

@@ -1,4 +1,5 @@
 // The required entries of an accept or a reject.
+#![tactic(auto)]
 
 ghost use Rattle.std.specs.Prelude.{◌≡◌, ℕ};
 ghost use Rattle.wire_fields.specs.Items.{items};

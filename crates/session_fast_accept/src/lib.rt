@@ -1,5 +1,7 @@
 // An accept in the form in which clients send it, looked at in one pass: each tag is one byte, each entry a key and one value, each
 // required entry a string. This is a fast path. An accept in another form, one that is to be refused too, takes the general one.
+#![tactic(auto)]
+
 ghost use Rattle.std.specs.Prelude.{◌≡◌, ◌≤◌, length};
 ghost use Rattle.base_laws.specs.Base.{part};
 ghost use Rattle.wire_fields.specs.Items.{items};

@@ -1,5 +1,7 @@
 // Recorded bytes as text for people: printable characters alone, and the same text only for the same bytes (specs/Shown.antt).
 // `escape` is for hosts and requires nothing. The others are inner: `put_..` requires the room, and returns the place after what it put.
+#![tactic(auto)]
+
 ghost use Rattle.std.specs.Prelude.{◌≡◌, ◌+◌, ◌≤◌, ◌<◌, [], ◌∷◌, length, leb};
 ghost use Rattle.base_copy.specs.Put.{Put};
 ghost use Rattle.show_escape.specs.Escape.{backslash, hex_digit, escaped_byte, escaped, escape_answer, escape_out};

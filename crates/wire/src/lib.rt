@@ -1,5 +1,7 @@
 // Reading a message: the refusals in document 01's order, and the members of ClientMessage and ServerMessage. This crate, with
 // `wire_message` for the members' values and `wire_range` for their ranges, is what a session builds on.
+#![tactic(auto)]
+
 ghost use Rattle.std.specs.Prelude.{◌≡◌};
 ghost use Rattle.wire_fields.specs.Items.{items, last_item};
 ghost use Rattle.wire_walk_client.specs.Client.{client_of};

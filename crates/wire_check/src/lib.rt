@@ -1,4 +1,6 @@
 // The check of any message, by the one schema.
+#![tactic(auto)]
+
 pub mod entry;
 
 ghost use Rattle.std.specs.Prelude.{◌≡◌};

@@ -1,4 +1,6 @@
 // The check of one field of any message, by the one schema, and what the check of a whole message returns (`wire_check`).
+#![tactic(auto)]
+
 ghost use Rattle.std.specs.Prelude.{◌≡◌};
 ghost use Rattle.wire_varint.specs.Tag.{tag_of};
 ghost use Rattle.wire_check_field.specs.Check.{step_of, step_from, step_at};

@@ -1,5 +1,7 @@
 // The elements of a message's lists, one after the other. The bytes of a field come by `next_part` of `wire_fields`, whose answers
 // proofs/Elements ties to the list of all of them; the numbers of a NumberList come by `next_number`.
+#![tactic(auto)]
+
 ghost use Rattle.std.specs.Prelude.{◌≡◌, take, ltb, eqb};
 ghost use Rattle.base_laws.specs.Base.{pick};
 ghost use Rattle.wire_varint.specs.Varint.{varint_at};

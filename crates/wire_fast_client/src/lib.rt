@@ -1,5 +1,7 @@
 // A ClientMessage. I/O buffers have a fast path, for the form in which clients send them: one member that is the whole message, a delay,
 // then the data to the end. That is nearly every message of a session. What is in another form, damaged messages too, takes the walk.
+#![tactic(auto)]
+
 ghost use Rattle.std.specs.Prelude.{◌≡◌, length};
 ghost use Rattle.wire_varint.specs.Varint.{varint_at};
 ghost use Rattle.wire_value.specs.Field.{part_of};

@@ -1,4 +1,6 @@
 // A message's fields, one after the other, and the last of some numbers among them.
+#![tactic(auto)]
+
 ghost use Rattle.std.specs.Prelude.{◌≡◌, ◌-◌};
 ghost use Rattle.wire_varint.specs.Varint.{varint_at};
 ghost use Rattle.wire_value.specs.Field.{part_of};
@@ -9,7 +11,7 @@ use wire_types::Span;
 use wire_value::{Payload, part_at, payload_at};
 use wire_varint::tag::{Tag, tag_at};
 
-#[derive(Drop)]
+#[derive(Clone, Copy)]
 pub enum Field {
     Number {
         number: u64,

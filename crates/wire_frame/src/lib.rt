@@ -1,4 +1,6 @@
 // Frames: the cut of a stream of bytes into messages. Each answer is what specs/Frame says of the bytes at hand.
+#![tactic(auto)]
+
 ghost use Rattle.std.specs.Prelude.{◌≡◌, ◌+◌, ◌*◌};
 ghost use Rattle.wire_frame.specs.Frame.{cut_of, frame_state, count_of};
 

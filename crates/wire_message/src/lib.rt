@@ -1,6 +1,8 @@
 // What the messages of sudo_logsrv.proto mean, and the values of each embedded message: numbers as they were read, and places
 // of bytes. They are those of every slice, checked or not; a message that the check refuses has the fields before the broken one.
 // Each contract says the answer itself, `places`, and what it means.
+#![tactic(auto)]
+
 ghost use Rattle.std.specs.Prelude.{◌≡◌};
 ghost use Rattle.wire_fields.specs.Fields.{number_in};
 ghost use Rattle.wire_fields.specs.Items.{items, last_item};

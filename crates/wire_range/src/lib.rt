@@ -1,4 +1,6 @@
 // The ranges of document 01's table: of each message.
+#![tactic(auto)]
+
 pub mod limits;
 
 ghost use Rattle.std.specs.Prelude.{◌≡◌};

@@ -1,4 +1,6 @@
 // sudo_logsrv.proto: the kind of each message's fields.
+#![tactic(auto)]
+
 ghost use Rattle.std.specs.Prelude.{◌≡◌};
 ghost use Rattle.wire_schema.specs.Schema.{kind_of};
 ghost use Rattle.wire_schema.specs.Rows.{low_of, high_of, kind_in};

@@ -1,4 +1,6 @@
 // The values of fields, by wire type.
+#![tactic(auto)]
+
 ghost use Rattle.std.specs.Prelude.{◌≡◌, ◌<◌};
 ghost use Rattle.wire_varint.specs.Varint.{varint_at};
 ghost use Rattle.wire_value.specs.Field.{fixed_at, number_payload, part_of, payload_at};

@@ -1,4 +1,6 @@
 // Varints.
+#![tactic(auto)]
+
 pub mod tag;
 
 ghost use Rattle.std.specs.Prelude.{◌≡◌};

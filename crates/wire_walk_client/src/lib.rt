@@ -1,4 +1,6 @@
 // One walk that checks a ClientMessage and collects its member at once.
+#![tactic(auto)]
+
 ghost use Rattle.std.specs.Prelude.{◌≡◌};
 ghost use Rattle.wire_walk_client.specs.Client.{client_of};
 

@@ -3,6 +3,8 @@
 // `framed` (with the four bytes of a frame before it) and the buffer, from whose start it writes; it returns document 01's
 // refusal, 0 for none, and how many bytes it wrote. On a refusal nothing is written. `member` is the field number of the message
 // around it, in which it is written, or 0 to write it by itself; any other number is refused with 7.
+#![tactic(auto)]
+
 ghost use Rattle.std.specs.Prelude.{◌≡◌, length};
 ghost use Rattle.write_forms.specs.Draft.{accept_pieces, report_pieces, restart_pieces, client_hello_pieces, wrapped};
 ghost use Rattle.write_forms.specs.Run.{run_refusal};

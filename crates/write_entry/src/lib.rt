@@ -1,5 +1,7 @@
 // Entries. An entry is written by itself, or tagged as in the run of an AcceptMessage (member 2), a RejectMessage or
 // an AlertMessage (member 3): runs are tagged entries one after the other. Lists of strings are lent as joined bytes and ends.
+#![tactic(auto)]
+
 ghost use Rattle.std.specs.Prelude.{◌≡◌, length};
 ghost use Rattle.write_forms.specs.Draft.{numval, strval, strlistval, numlistval, entry_pieces, cut_at, wrapped};
 ghost use Rattle.write_forms.specs.Outcome.{buffer};

@@ -1,5 +1,7 @@
 // The writers of the messages that a session stores after its accept: I/O buffers, window sizes, suspends and exits. How a writer is
 // called and what it returns stands in `write_client`, which has those of the other members of a ClientMessage.
+#![tactic(auto)]
+
 ghost use Rattle.std.specs.Prelude.{◌≡◌, length};
 ghost use Rattle.write_forms.specs.Draft.{exit_pieces, timed_pieces, window_pieces, wrapped};
 ghost use Rattle.write_forms.specs.Outcome.{buffer};

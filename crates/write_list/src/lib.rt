@@ -1,4 +1,6 @@
 // The writers of lists by themselves: a StringList and a NumberList. How a writer is called and what it returns stands in `write_client`.
+#![tactic(auto)]
+
 ghost use Rattle.std.specs.Prelude.{◌≡◌, true, length};
 ghost use Rattle.write_forms.specs.Draft.{string_list_pieces, number_list_pieces, cut_at, wrapped};
 ghost use Rattle.write_forms.specs.Outcome.{buffer};

@@ -1,4 +1,6 @@
 // Lists of strings, lent as joined bytes and ends, and packed numbers. Inner, as the functions of `write_pieces` are, but for `ends_fit`.
+#![tactic(auto)]
+
 ghost use Rattle.std.specs.Prelude.{◌≡◌, ◌+◌, ◌≤◌, false, not, length};
 ghost use Rattle.write_forms.specs.Pieces.{elements, text, encode, packed};
 ghost use Rattle.write_forms.specs.Draft.{cut_at, bad_ends};

@@ -13,7 +13,7 @@ use write_lists::{len_list, len_numbers, put_list, put_numbers};
 use write_pieces::number::{len_number, put_number};
 use write_pieces::part::{len_cover, len_raw, len_text, len_time, put_cover, put_text, put_time};
 
-#[derive(Drop)]
+#[derive(Clone, Copy)]
 pub struct Form {
     // the field number of its TimeSpec
     pub time: u8,

@@ -1,4 +1,6 @@
 // A run of entries, read before it is written: tagged `info_msgs` fields of the message and nothing else.
+#![tactic(auto)]
+
 ghost use Rattle.std.specs.Prelude.{◌≡◌};
 ghost use Rattle.write_forms.specs.Run.{entry_at, run_at, run_refusal};
 

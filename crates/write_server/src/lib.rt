@@ -1,4 +1,6 @@
 // The writers of a ServerMessage's members, as in `write_client`.
+#![tactic(auto)]
+
 ghost use Rattle.std.specs.Prelude.{◌≡◌, [], ◌∷◌, length};
 ghost use Rattle.write_forms.specs.Pieces.{bytes, encode_all};
 ghost use Rattle.write_forms.specs.Draft.{time_pieces, server_hello_pieces, cut_at, wrapped};
