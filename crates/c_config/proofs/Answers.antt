@@ -2,11 +2,10 @@
 use mathlib.Core.Path.{◌≡◌, refl, sym, ap, ◌∙◌}
 use mathlib.Core.Bool.{true}
 use Prim.Native.Nat.{ℕ, ◌≤◌, ◌<◌}
-use native.Mathlib.Omega.{arith}
 use lib.ListN.{length}
 use lib.Dec.{leb}
 use borrow.Author.Tests.{le-leb, lt-leb}
-use Rattle.base_laws.specs.Base.{pick, splice}
+use Rattle.base_laws.specs.Base.{splice}
 use Rattle.base_numbers.specs.Eight.{eights, laid}
 use Rattle.base_numbers.proofs.Lay.{has_room}
 use Rattle.conf_lines.specs.Lines.{Bytes}

@@ -32,9 +32,9 @@ module _ (a : List ℕ) (u : ℕ) (b : List ℕ) (v : ℕ) (out : List ℕ) wher
   abbrev pub Compares : ℕ → List ℕ → Type 0
   Compares r left = (r ≡ compared_number (compare_areas a u b v out)) × (left ≡ compare_areas_out a u b v out)
 
-  pub out-of-bounds : both_within a u b v ≡ false → Compares (refused 15) out
+  pub out_of_bounds : both_within a u b v ≡ false → Compares (refused 15) out
   unfolding compare_areas compare_areas_out compared_number
-  out-of-bounds w = rw w (refl, refl)
+  out_of_bounds w = rw w (refl, refl)
 
   pub in_bounds : both_within a u b v ≡ true → (c : Compared) (left : List ℕ) → compare_answer (take u a) (take v b) out ≡ c → left ≡ compare_out (take u a) (take v b) out
       → Compares (compared_number c) left

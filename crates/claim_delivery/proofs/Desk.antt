@@ -11,7 +11,7 @@ use lib.ListN.{length, take, length-append}
 use borrow.Author.Tests.{eq-eqb, ne_eqb, eqb-true, eqb-false}
 use Rattle.base_laws.specs.Base.{pick, both, All}
 use Rattle.base_laws.proofs.Lists.{all_append, all_right, all_map}
-use Rattle.wire_message.specs.Message.{Bytes, Restart, Client, accept_msg, reject_msg, exit_msg, restart_msg, alert_msg, io_buf, winsize_event, suspend_event, hello_msg}
+use Rattle.wire_message.specs.Message.{Bytes, Restart, Client, accept_msg, exit_msg, restart_msg, hello_msg}
 use Rattle.wire_range.specs.Range.{restart_fits}
 use Rattle.wire.specs.Read.{value, client_message}
 use Rattle.file_format.specs.Record.{Record, record_bytes}

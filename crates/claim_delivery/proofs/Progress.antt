@@ -20,7 +20,7 @@ use Rattle.claim_values.specs.Values.{TimedRecord}
 use Rattle.claim_delivery.specs.Recording.{Recording, records, time, greater}
 use Rattle.claim_delivery.specs.Sender.{Place, Sent, accept, restart, timed, exit, rest, messages, Says, Lines}
 use Rattle.claim_delivery.specs.Host.{frames, Answer, to_tick, to_message, Desk}
-use Rattle.claim_delivery.specs.World.{Connection, World, fresh, Event, stopped_after, sending, opening, bytes, tick, arrival, break, with_connection, area_of, opened, desk, settled, came_in, arrived, inside, outside, happens, run, Fresh, Proper, AllProper}
+use Rattle.claim_delivery.specs.World.{Connection, World, fresh, Event, sending, opening, bytes, tick, arrival, break, with_connection, area_of, opened, desk, settled, came_in, arrived, inside, outside, happens, run, Fresh, Proper, AllProper}
 use Rattle.claim_delivery.specs.Demand.{Listed, Delivery, end}
 use Rattle.claim_delivery.specs.Progress.{Sendable, under_way, TellsEnd, Done, GoesOn, Progress}
 use Rattle.claim_delivery.proofs.Restarting.{restartable}

@@ -4,7 +4,6 @@
 use Rattle.std.specs.Prelude.{◌≡◌, [], ◌∷◌}
 use Rattle.base_laws.specs.Base.{part}
 use Rattle.wire_message.specs.Message.{Bytes}
-use Rattle.session.specs.Step.{Outcome}
 use Rattle.claim_examples.specs.Session.{accepted, next}
 
 -- 24 rows and 80 columns, after 1 s

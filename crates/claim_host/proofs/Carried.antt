@@ -1,7 +1,7 @@
 -- `Carried`: the world of a host in C is demand 3's, event after event.
 use Prim.Native.Nat.{ℕ, zero, suc, ◌+◌, ◌<◌}
 use native.Mathlib.Omega.{arith}
-use mathlib.Core.Path.{◌≡◌, refl, ap, sym, ◌∙◌}
+use mathlib.Core.Path.{◌≡◌, refl, ap, ◌∙◌}
 use mathlib.Core.Bool.{Bool, true, false}
 use mathlib.Core.Option.{Option, none, some}
 use mathlib.Core.List.{List, [], ◌∷◌, ◌++◌}
@@ -14,20 +14,17 @@ use Rattle.wire_frame.specs.declared.Cut.{Cut}
 use Rattle.wire_frame.specs.declared.Cut.TheVariants.{Wait, Frame, Refused}
 use Rattle.wire_message.specs.Message.{Bytes}
 use Rattle.session.specs.Step.{new_session, tick}
-use Rattle.session.specs.declared.Session.{Session}
-use Rattle.session.specs.declared.Point.{Point}
-use Rattle.session_bytes.specs.Saved.{session_of, kept}
+use Rattle.session_bytes.specs.Saved.{session_of}
 use Rattle.session_bytes.proofs.Keeping.{keeping}
 use Rattle.session_bytes.proofs.Ticks.{slice_tick_sound}
 use Rattle.file_format.specs.File.{file_bytes, file_kind, finished}
 use Rattle.claim_delivery.specs.Recording.{Recording, records}
-use Rattle.claim_delivery.specs.Host.{Drained, drain_cut, drain, Answer, to_tick, to_message, Desk, hand_all}
+use Rattle.claim_delivery.specs.Host.{Drained, drain_cut, drain, Answer, Desk}
 use Rattle.claim_delivery.specs.World as w
 use Rattle.claim_delivery.specs.World.{Connection, World, Event, fresh, opened, put, desk, settled, came_in, tick_answers, arrived, inside, outside, happens, run}
 use Rattle.claim_delivery.specs.Demand.{Delivery, end}
 use Rattle.claim_delivery.proofs.Demand.{demand_3}
-use Rattle.claim_host.specs.Desk.{CDesk, seen, hand_all_c}
-use Rattle.claim_host.specs.World.{CConnection, CWorld, seen_connection, seen_option, seen_world, fresh_c, opened_c, drain_c, desk_c, settled_c, came_in_c, arrived_c, outside_c, inside_c, happens_c, run_c, end_c}
+use Rattle.claim_host.specs.World.{CConnection, CWorld, seen_connection, seen_option, seen_world, fresh_c, opened_c, drain_c, desk_c, came_in_c, arrived_c, outside_c, inside_c, happens_c, run_c, end_c}
 use Rattle.claim_host.specs.Carried.{Sized, file_c, Carried}
 use Rattle.claim_host.proofs.Messages.{cut_back, kept_back, kept_forty, tick_back, handed, all_handed, all_sized}
 

@@ -1,35 +1,35 @@
 -- One message at a host in C is one at demand 3's host: what it reads from numbers is what the definitions give.
 use Prim.Native.Nat.{ℕ, ◌<◌}
 use native.Mathlib.Omega.{arith}
-use mathlib.Core.Path.{◌≡◌, refl, ap, sym, ◌∙◌}
+use mathlib.Core.Path.{◌≡◌, refl, ap, ◌∙◌}
 use mathlib.Core.Logic.{◌⊎◌, inl, inr}
 use mathlib.Core.List.{List, [], ◌∷◌}
 use lib.ListN.{length}
-use lib.Dec.{leb, eqb}
+use lib.Dec.{eqb}
 use borrow.Author.Tests.{eq-eqb, ne_eqb}
 use Rattle.base_laws.specs.Base.{pick}
-use Rattle.wire_frame.specs.Frame.{cut_of, refusal_of, frame_state, count_of}
+use Rattle.wire_frame.specs.Frame.{refusal_of, frame_state, count_of}
 use Rattle.wire_frame.specs.declared.Cut.{Cut}
 use Rattle.wire_frame.specs.declared.Cut.TheVariants.{Wait, Frame, Refused}
 use Rattle.wire_message.specs.Message.{Bytes}
 use Rattle.base_numbers.specs.Eight.{eights, number_at}
 use Rattle.base_numbers.proofs.Back.{first_back, third_back, fourth_back}
-use Rattle.session.specs.Step.{Outcome, new_session, step, tick}
+use Rattle.session.specs.Step.{Outcome, step}
 use Rattle.session.specs.declared.Session.{Session}
 use Rattle.session.specs.declared.Point.{Point}
 use Rattle.session.specs.declared.Point.TheVariants as point
-use Rattle.session_bytes.specs.Saved.{state_number, session_bytes, session_of, kept}
+use Rattle.session_bytes.specs.Saved.{state_number, session_of, kept}
 use Rattle.session_bytes.specs.Sound.{Sound}
 use Rattle.session_bytes.proofs.Slices.{laid_whole}
 use Rattle.session_bytes.proofs.Numbers.{loaded_sound}
-use Rattle.session_bytes.proofs.Ticks.{PointSound, slice_tick_sound}
+use Rattle.session_bytes.proofs.Ticks.{PointSound}
 use Rattle.session_bytes.proofs.Keeping.{keeping}
 use Rattle.c_session.specs.Session.{has_point, point_number, answer_numbers, stepped, message_answer, message_slice, message_area, message_out, tick_number}
 use Rattle.claim_delivery.specs.Recording.{Recording}
 use Rattle.claim_delivery.specs.Host.{hand, hand_all}
 use Rattle.claim_host.specs.Desk.{cut_from, point_in, tick_from, CDesk, seen, room, hand_c, hand_all_c}
 use Rattle.claim_host.specs.Carried.{Sized}
-use Rattle.claim_host.proofs.Told.{Told, told}
+use Rattle.claim_host.proofs.Told.{told}
 
 pub cut_back : (c : Cut) → cut_from (frame_state c) (count_of c) ≡ c
 unfolding cut_from refusal_of frame_state count_of

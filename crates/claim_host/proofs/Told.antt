@@ -6,7 +6,6 @@ use mathlib.Core.Bool.{Bool}
 use mathlib.Core.List.{List}
 use lib.ListN.{length, take}
 use lib.Dec.{leb, eqb}
-use Rattle.base_laws.specs.Base.{pick}
 use Rattle.base_laws.proofs.Order.{picked}
 use Rattle.wire_message.specs.Message.{Bytes, Accept, Exit, Restart, Client, accept_msg, reject_msg, exit_msg, restart_msg, alert_msg, io_buf, winsize_event, suspend_event, hello_msg}
 use Rattle.wire_range.specs.Range.{accept_fits, report_fits, exit_fits, restart_fits, io_fits, window_fits, suspend_fits}
@@ -20,7 +19,6 @@ use Rattle.session_turn.specs.declared.State.TheVariants.{New, Greeted, Logging,
 use Rattle.session_turn.specs.declared.Turn.{Turn}
 use Rattle.session_turn.specs.declared.Turn.TheVariants.{To, NotNow}
 use Rattle.session.specs.declared.Session.{Session}
-use Rattle.session.specs.declared.Point.{Point}
 use Rattle.session.specs.declared.Point.TheVariants as point
 
 module _ (se : Session) (area : Bytes) (used : ℕ) where

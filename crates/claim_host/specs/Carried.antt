@@ -1,5 +1,5 @@
 -- A host in C is demand 3's host: it keeps 40 bytes, reads numbers, and comes to the same world. So all of demand 3 holds of its bytes.
-use Rattle.std.specs.Prelude.{ℕ, ◌<◌, ◌≡◌, List, length, take}
+use Rattle.std.specs.Prelude.{ℕ, ◌<◌, ◌≡◌, length, take}
 use Rattle.base_laws.specs.Base.{pick, All}
 use Rattle.wire_frame.specs.Frame.{cut_of, frame_state, count_of}
 use Rattle.wire_message.specs.Message.{Bytes}

@@ -2,7 +2,7 @@
 use Prim.Native.Nat.{ℕ, ◌+◌, ◌-◌, ◌≤◌}
 use native.Mathlib.Omega.{arith}
 use mathlib.Core.Path.{◌≡◌, refl, sym, ap, ◌∙◌}
-use mathlib.Core.Logic.{◌⊎◌, inl, inr}
+use mathlib.Core.Logic.{inl, inr}
 use mathlib.Core.Bool.{Bool, true, false}
 use mathlib.Core.List.{List, [], ◌∷◌}
 use lib.ListN.{length, take}
@@ -25,7 +25,7 @@ use Rattle.session.specs.declared.Mark.TheVariants as mark
 use Rattle.file_format.proofs.Areas.{within_area_lem}
 use Rattle.session.proofs.Lengths.{lengths}
 use Rattle.claim_values.specs.Values.{TimedRecord, io, window, suspend, timed_member, stored_for, timed_in_range}
-use Rattle.claim_touches.specs.Touches.{Unopened, Follows, OneMore, Touched, nothing, begins, goes_on, resumes, ZeroDelay, Touches}
+use Rattle.claim_touches.specs.Touches.{Unopened, Follows, Touched, nothing, begins, goes_on, resumes, ZeroDelay, Touches}
 
 module _ (se : Session) (area : Bytes) (used : ℕ) (s : Bytes) where
   abbrev Is : Outcome → Type 0

@@ -7,7 +7,7 @@ use Rattle.wire.specs.Read.{value, client_message, received}
 use Rattle.file_format.specs.Record.{Record, record_bytes}
 use Rattle.file_format.specs.File.{all, records_of, file_bytes, limit, keep}
 use Rattle.session_turn.specs.declared.State.{State}
-use Rattle.session_turn.specs.declared.State.TheVariants.{New, Greeted, Logging, EventsOnly}
+use Rattle.session_turn.specs.declared.State.TheVariants.{New, Greeted, Logging}
 use Rattle.session.specs.Step.{Outcome, moment, record_for, lengths_fit, step}
 use Rattle.session.specs.declared.Session.{Session}
 use Rattle.session.specs.declared.Mark.TheVariants as mark

@@ -1,5 +1,5 @@
 -- A line byte by byte, as the code reads it: inner definitions. proofs/Joined.antt shows that they give the lines of Lines.antt.
-use Rattle.std.specs.Prelude.{ℕ, ◌+◌, ◌≤◌, ◌<◌, ◌≡◌, List, [], ◌∷◌, Bool, true, false, length, drop, eqb}
+use Rattle.std.specs.Prelude.{ℕ, ◌+◌, ◌≤◌, ◌<◌, ◌≡◌, [], ◌∷◌, Bool, true, false, length, drop, eqb}
 use Rattle.base_laws.specs.Base.{pick, both}
 use Rattle.conf_lines.specs.Lines.{Bytes, is_blank, lead, is_remark}
 use Rattle.conf_lines.specs.declared.Cursor.{Cursor}

@@ -1,10 +1,10 @@
 -- The bytes of a span, put one by one in the case asked for. Assumes nothing.
-use mathlib.Core.Path.{◌≡◌, refl, sym, ap, subst, ◌∙◌}
-use mathlib.Core.Bool.{Bool, true, false}
-use mathlib.Core.List.{List, [], ◌∷◌, ◌++◌}
-use Prim.Native.Nat.{ℕ, suc, ◌+◌, ◌≤◌, ◌<◌}
+use mathlib.Core.Path.{◌≡◌, sym, ap, subst, ◌∙◌}
+use mathlib.Core.Bool.{Bool}
+use mathlib.Core.List.{[], ◌∷◌, ◌++◌}
+use Prim.Native.Nat.{ℕ, ◌+◌, ◌≤◌, ◌<◌}
 use native.Mathlib.Omega.{arith}
-use lib.ListN.{length, take, set, get_or}
+use lib.ListN.{length, take, set}
 use lib.Seq.{length-take-le}
 use Rattle.base_copy.specs.Put.{Put}
 use Rattle.base_copy.proofs.Puts.{put_byte, Filling, fill_start, fill_room, fill_more, fill_end}
@@ -13,7 +13,6 @@ use Rattle.conf_lines.specs.Scan.{Gave, Over}
 use Rattle.conf_lines.specs.Span.{joined_from, spanned, Within}
 use Rattle.conf_lines.specs.declared.Cursor.{Cursor}
 use Rattle.conf_lines.specs.declared.span.Span.{Span}
-use Rattle.conf_typed.specs.Typed.{lower}
 use Rattle.conf_typed.specs.Read.{cased}
 use Rattle.conf_typed.proofs.Words.{length_cased, first_cased, nothing_cased}
 use Rattle.conf_typed.proofs.Reading.{rest, Reading, reads_all, rest_all, reads_on, not_over, rest_next, rest_none}

@@ -1,5 +1,5 @@
 -- A setting by the places of its key and value, and the room for it. Inner.
-use Rattle.std.specs.Prelude.{ℕ, ◌+◌, ◌-◌, Bool, false, length, leb}
+use Rattle.std.specs.Prelude.{ℕ, ◌+◌, ◌-◌, false, length, leb}
 use Rattle.base_laws.specs.Base.{pick, both}
 use Rattle.conf_lines.specs.Lines.{Bytes}
 use Rattle.conf_lines.specs.Span.{spanned}

@@ -1,13 +1,12 @@
 -- What is answered and left, by what the first pass gave. Assumes nothing.
 use mathlib.Core.Path.{◌≡◌, refl, sym, ap, ◌∙◌}
 use mathlib.Core.List.{List, [], ◌∷◌}
-use mathlib.Core.Bool.{Bool, true, false}
+use mathlib.Core.Bool.{true, false}
 use Prim.Native.Nat.{ℕ, ◌≤◌}
 use native.Mathlib.Omega.{arith}
 use lib.ListN.{length}
-use lib.Dec.{leb}
 use borrow.Author.Tests.{leb-true}
-use Rattle.base_laws.specs.Base.{pick, both, splice}
+use Rattle.base_laws.specs.Base.{splice}
 use Rattle.base_laws.proofs.Order.{both_true}
 use Rattle.base_copy.specs.Put.{Put}
 use Rattle.conf_lines.specs.Lines.{Bytes}
@@ -17,7 +16,6 @@ use Rattle.conf_read.specs.Passes.{start_tally, survey_of, Good, listed}
 use Rattle.conf_read.specs.declared.survey.Tally.{Tally}
 use Rattle.conf_read.specs.declared.survey.Survey.{Survey}
 use Rattle.conf_read.specs.declared.survey.Survey.TheVariants as survey
-use Rattle.conf_read.specs.declared.Config.{Config}
 use Rattle.conf_read.specs.declared.Config.TheVariants as config
 use Rattle.conf_read.proofs.Surveys.{tallied_all, on_verdict, all_lines, all_values, all_room}
 

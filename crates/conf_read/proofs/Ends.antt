@@ -1,14 +1,14 @@
 -- Where a pass starts and ends. Assumes nothing.
-use mathlib.Core.Path.{◌≡◌, refl, sym, ap, ◌∙◌}
-use mathlib.Core.List.{List, [], ◌∷◌}
+use mathlib.Core.Path.{◌≡◌, refl, ap, ◌∙◌}
+use mathlib.Core.List.{[]}
 use Prim.Native.Nat.{ℕ, ◌+◌, ◌≤◌}
-use lib.ListN.{length, drop, drop_of_length-le}
+use lib.ListN.{length, drop_of_length-le}
 use Rattle.conf_lines.specs.Lines.{Bytes, lines_at}
 use Rattle.conf_lines.specs.declared.Cursor.{Cursor}
 use Rattle.conf_lines.proofs.Joined.{no_lines}
 use Rattle.conf_typed.specs.declared.Section.{Section}
 use Rattle.conf_typed.specs.declared.Section.TheVariants.{Unknown}
-use Rattle.conf_read.specs.Config.{Statement, statements, statements_of}
+use Rattle.conf_read.specs.Config.{statements, statements_of}
 use Rattle.conf_read.specs.Passes.{ahead, start_tally, survey_of, survey_from}
 use Rattle.conf_read.specs.declared.survey.Tally.{Tally}
 use Rattle.conf_read.specs.declared.survey.Place.{Place}

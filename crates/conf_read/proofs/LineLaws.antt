@@ -1,6 +1,6 @@
 -- What a line read at a cursor says of the lines from there on. Assumes nothing.
 use mathlib.Core.Path.{◌≡◌, refl, sym, ap, ◌∙◌}
-use mathlib.Core.List.{List, [], ◌∷◌}
+use mathlib.Core.List.{◌∷◌}
 use mathlib.Core.Bool.{false}
 use mathlib.Core.Logic.{⊎_elim}
 use Prim.Native.Nat.{ℕ, ◌+◌, ◌≤◌, ◌<◌}
@@ -8,11 +8,10 @@ use native.Mathlib.Omega.{arith}
 use lib.ListN.{length, drop}
 use lib.Seq.{drop-cons}
 use Rattle.base_laws.proofs.Order.{lt_or_le}
-use Rattle.conf_lines.specs.Lines.{Bytes, Line, trail, lead, is_remark, lines_at}
-use Rattle.conf_lines.specs.Scan.{Scanned, scanned, blanks, comment, line_from, Sound, Ended, Begins, Skips}
+use Rattle.conf_lines.specs.Lines.{Bytes, trail, lead, is_remark, lines_at}
+use Rattle.conf_lines.specs.Scan.{scanned, blanks, comment, line_from, Begins, Skips}
 use Rattle.conf_lines.specs.declared.Cursor.{Cursor}
 use Rattle.conf_lines.proofs.Joined.{one_line, remark_line}
-use Rattle.conf_content.specs.Content.{content_of, empty}
 use Rattle.conf_content.specs.Shape.{meant, Read}
 use Rattle.conf_content.specs.declared.LineRead.{LineRead}
 use Rattle.conf_content.specs.declared.Shape.TheVariants as shape

@@ -19,10 +19,9 @@ use Rattle.conf_list.specs.Listing.{Setting, four, counted, entry, listing, is_s
 use Rattle.conf_list.specs.Entry.{size_of, room_for}
 use Rattle.conf_list.specs.declared.Room.{Room}
 use Rattle.conf_read.specs.Config.{Statement, sets, refuses, is_unknown, is_wrong, setting_in, on_content, Verdict, refused_at, taken, after, verdict, values_from, fits}
-use Rattle.conf_read.specs.Passes.{ahead, tallied, survey_of, LineAt, turn_set, turn_of, surveyed_of, survey_from, Further, Surveys}
+use Rattle.conf_read.specs.Passes.{ahead, tallied, survey_of, LineAt, turn_set, turn_of, surveyed_of, Surveys}
 use Rattle.conf_read.specs.declared.survey.Tally.{Tally}
 use Rattle.conf_read.specs.declared.survey.Place.{Place}
-use Rattle.conf_read.specs.declared.survey.Turn.{Turn}
 use Rattle.conf_read.specs.declared.survey.Survey.{Survey}
 use Rattle.conf_read.specs.declared.survey.Survey.TheVariants as survey
 

@@ -1,9 +1,6 @@
 -- What a setting does in a section, by the tests of the code. Assumes nothing.
-use mathlib.Core.Path.{◌≡◌, refl, sym, ap, ◌∙◌}
-use mathlib.Core.Bool.{Bool, true, false}
-use Prim.Native.Nat.{ℕ}
-use lib.ListN.{length}
-use Rattle.base_laws.specs.Base.{pick}
+use mathlib.Core.Path.{◌≡◌, refl, ap}
+use mathlib.Core.Bool.{true, false}
 use Rattle.conf_lines.specs.Lines.{Bytes}
 use Rattle.conf_lines.specs.Span.{spanned, Within}
 use Rattle.conf_lines.specs.declared.span.Span.{Span}

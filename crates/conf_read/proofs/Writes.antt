@@ -1,5 +1,5 @@
 -- The second pass: what is written for a line. Assumes nothing.
-use mathlib.Core.Path.{◌≡◌, refl, sym, ap, ◌∙◌}
+use mathlib.Core.Path.{◌≡◌, refl, ap, ◌∙◌}
 use mathlib.Core.List.{List, [], ◌∷◌, ◌++◌}
 use mathlib.Core.Bool.{Bool, true, false}
 use Prim.Native.Nat.{ℕ, ◌+◌, ◌≤◌, ◌<◌}
@@ -12,13 +12,11 @@ use Rattle.conf_lines.specs.Lines.{Bytes}
 use Rattle.conf_lines.specs.Span.{spanned}
 use Rattle.conf_lines.specs.declared.Cursor.{Cursor}
 use Rattle.conf_lines.specs.declared.span.Span.{Span}
-use Rattle.conf_content.specs.Content.{Content, empty, section, setting, bad}
-use Rattle.conf_content.specs.Shape.{meant}
 use Rattle.conf_content.specs.declared.LineRead.{LineRead}
 use Rattle.conf_content.specs.declared.Shape.TheVariants as shape
 use Rattle.conf_typed.specs.Typed.{lower, section_of, typed_of}
 use Rattle.conf_typed.specs.declared.Section.{Section}
-use Rattle.conf_list.specs.Listing.{Setting, entry, listing}
+use Rattle.conf_list.specs.Listing.{entry, listing}
 use Rattle.conf_list.specs.Entry.{setting_of}
 use Rattle.conf_read.specs.Config.{Statement, sets, refuses, is_unknown, is_wrong, setting_in, on_content}
 use Rattle.conf_read.specs.Passes.{ahead, LineAt, Sets, Good, listed, Wrote}

@@ -1,6 +1,6 @@
 -- The two passes over a text: what the first one adds up, and where both stand. Inner.
-use Rattle.std.specs.Prelude.{ℕ, ◌+◌, ◌≤◌, ◌<◌, ◌≡◌, List, [], ◌∷◌, ◌++◌, Bool, true, false, length, drop}
-use Rattle.base_laws.specs.Base.{pick, All}
+use Rattle.std.specs.Prelude.{ℕ, ◌+◌, ◌<◌, ◌≡◌, List, [], ◌∷◌, ◌++◌, true, length, drop}
+use Rattle.base_laws.specs.Base.{All}
 use Rattle.base_copy.specs.Put.{Put}
 use Rattle.conf_lines.specs.Lines.{Bytes, lines_at}
 use Rattle.conf_lines.specs.Scan.{Sound}

@@ -18,7 +18,6 @@ use Rattle.wire_value.specs.declared.Payload.TheVariants as payload
 use Rattle.wire_fields.specs.Fields.{field_of, field_from, field_at, on_field, fields_from, fields_at, among}
 use Rattle.wire_fields.specs.Items as item
 use Rattle.wire_fields.specs.Items.{Item, item_of, items, last_from, last_item, bytes_of, every_bytes}
-use Rattle.wire_fields.specs.declared.Field.{Field}
 use Rattle.wire_fields.proofs.Reach.{PayloadRead, payload_at_lem}
 use Rattle.wire_fields.proofs.Follow.{follow, none}
 use Rattle.wire_check.proofs.Entries.{tagged}

@@ -22,9 +22,7 @@ use Rattle.wire_fields.proofs.Follow.{LastInBounds, last_in_in_bounds, span_in_b
 use Rattle.wire_fields.proofs.Items.{content_of, last_means, bytes_means}
 use Rattle.wire_walk_io.specs.Places.{time_in, io_read, io_buffer_of}
 use Rattle.wire_walk_client.specs.Client.{member_read, client_from, client_read, client_of}
-use Rattle.wire_walk_io.specs.declared.io.IoRead.TheVariants as ioread
 use Rattle.wire_types.specs.declared.ClientRead.{ClientRead}
-use Rattle.wire_types.specs.declared.ClientRead.TheVariants as client
 use Rattle.wire_message.specs.Message.{client_member, server_member, io_buf, timed}
 use Rattle.wire_message.specs.Places.{time_value}
 use Rattle.wire_message.proofs.Meaning.{time_means}

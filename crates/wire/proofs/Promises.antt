@@ -8,6 +8,7 @@ use lib.Dec.{leb, eqb}
 use borrow.Author.Tests.{leb-true, eqb-false}
 use Rattle.base_laws.proofs.Order.{picked, both_true}
 use Rattle.wire_schema.specs.Schema.{ClientMessage, ServerMessage}
+use Rattle.base_laws.specs.Base.{pick}
 use Rattle.wire_check_field.proofs.Numbered.{CheckTold, check_told}
 use Rattle.wire_check_field.specs.Check.{check_of}
 use Rattle.wire_fields.specs.Fields.{among}
@@ -28,9 +29,9 @@ last_named : (lo hi : ℕ) (l : Item) (is : List Item) → Named lo hi l → Nam
 unfolding last_from among
 last_named lo hi l [] h = h
 last_named lo hi l (none ∷ is) h = last_named lo hi l is h
-last_named lo hi l (number f v ∷ is) h = last_named lo hi _ is (picked (Named lo hi) (among lo hi f) (number f v) l (λ _. tt) (λ _. h))
+last_named lo hi l (number f v ∷ is) h = last_named lo hi (pick (among lo hi f) (number f v) l) is (picked (Named lo hi) (among lo hi f) (number f v) l (λ _. tt) (λ _. h))
 last_named lo hi l (bytes f d ∷ is) h =
-    last_named lo hi _ is
+    last_named lo hi (pick (among lo hi f) (bytes f d) l) is
     (picked (Named lo hi) (among lo hi f) (bytes f d) l
     (λ e. let p = both_true (leb lo f) (leb f hi) e in (leb-true lo f p.0, leb-true f hi p.1))
     (λ _. h))

@@ -5,25 +5,18 @@ use mathlib.Core.Path.{◌≡◌, refl, ap, ◌∙◌}
 use mathlib.Core.List.{List, [], ◌∷◌, ◌++◌, map}
 use mathlib.Core.Bool.{Bool, true, false}
 use lib.ListN.{length}
-use lib.Dec.{ltb, leb, eqb}
+use lib.Dec.{ltb, eqb}
 use borrow.Author.Tests.{le-leb}
 use Rattle.base_laws.specs.Base.{pick, both, part}
 use Rattle.base_laws.proofs.Order.{picked}
 use Rattle.wire_varint.specs.Varint.{varint_at}
-use Rattle.wire_schema.specs.Schema.{kind_of, takes, InfoMessage}
-use Rattle.wire_value.specs.Field.{fixed_at, number_payload, part_of, payload_at}
-use Rattle.wire_varint.specs.Tag.{tag_fits, tag_of, tag_at}
-use Rattle.wire_check_field.specs.Check.{step_of, step_from, step_at}
-use Rattle.wire_check_field.specs.Check.{before, on_step, check_from, check_at, check_of}
+use Rattle.wire_schema.specs.Schema.{InfoMessage}
+use Rattle.wire_varint.specs.Tag.{tag_at}
 use Rattle.wire_fields.specs.Items.{Item, items, every_bytes}
-use Rattle.wire_varint.specs.declared.Varint.{Varint}
-use Rattle.wire_varint.specs.declared.Varint.TheVariants.{Value, PastEnd, TooLong}
 use Rattle.wire_varint.specs.declared.tag.Tag.{Tag}
 use Rattle.wire_varint.specs.declared.tag.Tag.TheVariants as tag
 use Rattle.wire_value.specs.declared.Payload.{Payload}
 use Rattle.wire_value.specs.declared.Payload.TheVariants as payload
-use Rattle.wire_check_field.specs.declared.Step.{Step}
-use Rattle.wire_check_field.specs.declared.Step.TheVariants as step
 use Rattle.wire_check_field.specs.declared.Checked.{Checked}
 use Rattle.wire_check_field.specs.declared.Checked.TheVariants as checked
 use Rattle.wire_message.specs.Message as m

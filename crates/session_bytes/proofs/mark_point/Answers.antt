@@ -1,0 +1,11 @@
+-- Each arm hands the mark that it matched to `mark_point`.
+use Rattle.session_bytes.specs.Saved.{mark_point}
+use Rattle.session_bytes.proofs.mark_point.Goals as goal
+
+pub returns-in-Nothing : goal.returns-in-Nothing
+unfolding mark_point
+returns-in-Nothing c = rw c.in-Nothing.is
+
+pub returns-in-At : goal.returns-in-At
+unfolding mark_point
+returns-in-At c = rw c.in-At.is

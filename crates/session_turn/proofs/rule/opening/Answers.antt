@@ -1,0 +1,23 @@
+-- Each arm hands the state that it matched to the definition of the same name.
+use Rattle.session_turn.specs.Turn.{opening}
+use Rattle.session_turn.proofs.rule.opening.Goals as goal
+
+pub returns-in-New : goal.returns-in-New
+unfolding opening
+returns-in-New c = rw c.in-New.is
+
+pub returns-in-Greeted : goal.returns-in-Greeted
+unfolding opening
+returns-in-Greeted c = rw c.in-Greeted.is
+
+pub returns-in-Logging : goal.returns-in-Logging
+unfolding opening
+returns-in-Logging c = rw c.in-Logging.is
+
+pub returns-in-EventsOnly : goal.returns-in-EventsOnly
+unfolding opening
+returns-in-EventsOnly c = rw c.in-EventsOnly.is
+
+pub returns-in-Closed : goal.returns-in-Closed
+unfolding opening
+returns-in-Closed c = rw c.in-Closed.is

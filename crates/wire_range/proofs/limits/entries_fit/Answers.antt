@@ -1,0 +1,48 @@
+-- The loop keeps "the entries from `at` on fit where all do"; an entry found is Elements.found_part, none Elements.found_none.
+use Rattle.wire_range.specs.Limits.{entries_fit}
+use Rattle.wire_message.specs.Message.{entries}
+use Rattle.wire_elements.proofs.Elements.{all_elements, found_none, found_part, found_in_bounds}
+use Rattle.wire_fields.specs.Fields.{fields_at, first_of}
+use Rattle.wire_fields.specs.declared.Found.TheVariants as found
+use native.Mathlib.Omega.{arith}
+use mathlib.Core.Path.{◌≡◌, sym, ◌∙◌}
+use Rattle.wire_range.proofs.limits.entries_fit.Goals as goal
+use Rattle.wire_range.proofs.limits.entries_fit.Goals.{In-Part}
+
+-- the entry that is found
+entry_found : (c : In-Part) →
+    let a = c.args in
+    first_of a.number (fields_at a.s.now c.loop-start.at) ≡ found.Part c.in-Part.start c.in-Part.end
+entry_found c = sym c.next_part.ensures ∙ c.in-Part.is
+
+pub loop-start-init : goal.loop-start-init
+unfolding entries
+loop-start-init c = rw (all_elements c.args.number c.args.s.now)
+
+pub slice_bounds-entry_fits-count : goal.slice_bounds-entry_fits-count
+slice_bounds-entry_fits-count c = (found_in_bounds _ _ _ (entry_found c)).1
+
+pub slice_bounds-entry_fits-start : goal.slice_bounds-entry_fits-start
+slice_bounds-entry_fits-start c = let in_bounds = found_in_bounds _ _ _ (entry_found c) in omega arith
+
+pub slice_bounds-entry_fits-end : goal.slice_bounds-entry_fits-end
+slice_bounds-entry_fits-end c = let in_bounds = found_in_bounds _ _ _ (entry_found c) in omega arith
+
+pub loop-start-smaller : goal.loop-start-smaller
+loop-start-smaller c = let in_bounds = found_in_bounds _ _ _ (entry_found (goal.at.loop-start-smaller c).In-Part) in omega arith
+
+pub loop-start-preserved : goal.loop-start-preserved
+unfolding entries_fit
+loop-start-preserved c =
+    rw (found_part _ _ _ (entry_found (goal.at.loop-start-preserved c).In-Part), sym c.entry_fits.ensures ∙ c.if-entry_fits.true) at c.loop-start.invariant
+
+pub returns-else-entry_fits : goal.returns-else-entry_fits
+unfolding entries_fit
+returns-else-entry_fits c =
+    rw (found_part _ _ _ (entry_found (goal.at.returns-else-entry_fits c).In-Part), sym c.entry_fits.ensures ∙ c.if-entry_fits.false) at c.loop-start.invariant
+
+pub returns-in-Nothing : goal.returns-in-Nothing
+unfolding entries_fit
+returns-in-Nothing c =
+    let none = found_none _ _ _ (sym c.next_part.ensures ∙ c.in-Nothing.is) in
+    rw none at c.loop-start.invariant

@@ -1,0 +1,40 @@
+-- The member that counts is what last_in answers: Items.last_is_lem for what it means, Follow.part_in_bounds for where it lies.
+use borrow.Author.Tests.{eq-eqb, ne_eqb}
+use Rattle.wire_range.specs.Range.{server_fits}
+use native.Mathlib.Omega.{arith}
+use Rattle.wire_fields.proofs.Items.{last_is_lem}
+use Rattle.wire_fields.proofs.Follow.{part_in_bounds}
+use Rattle.wire_range.proofs.server_fits.Goals as goal
+
+pub slice_bounds-time_spec_in-count : goal.slice_bounds-time_spec_in-count
+slice_bounds-time_spec_in-count c = (part_in_bounds _ 1 5 c.last_in.ensures c.in-Part.is).0
+
+pub slice_bounds-time_spec_in-start : goal.slice_bounds-time_spec_in-start
+slice_bounds-time_spec_in-start c =
+    let in_bounds = part_in_bounds _ 1 5 c.last_in.ensures c.in-Part.is in
+    omega arith
+
+pub slice_bounds-time_spec_in-end : goal.slice_bounds-time_spec_in-end
+slice_bounds-time_spec_in-end c =
+    let in_bounds = part_in_bounds _ 1 5 c.last_in.ensures c.in-Part.is in
+    omega arith
+
+pub returns-then-number-eq2 : goal.returns-then-number-eq2
+unfolding server_fits
+returns-then-number-eq2 c =
+    let is = last_is_lem _ 1 5 c.last_in.ensures c.in-Part.is in
+    rw (← is, eq-eqb _ _ c.if-number-eq2.true, ← c.time_spec_in.ensures.means) c.moment_fits.ensures
+
+pub returns-in-Nothing : goal.returns-in-Nothing
+unfolding server_fits
+returns-in-Nothing c = rw (← last_is_lem _ 1 5 c.last_in.ensures c.in-Nothing.is)
+
+pub returns-in-Number : goal.returns-in-Number
+unfolding server_fits
+returns-in-Number c = rw (← last_is_lem _ 1 5 c.last_in.ensures c.in-Number.is)
+
+pub returns-else-number-eq2 : goal.returns-else-number-eq2
+unfolding server_fits
+returns-else-number-eq2 c =
+    let is = last_is_lem _ 1 5 c.last_in.ensures c.in-Part.is in
+    rw (← is, ne_eqb _ _ c.if-number-eq2.false)

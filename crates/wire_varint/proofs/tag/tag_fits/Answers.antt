@@ -1,0 +1,20 @@
+-- Each case is a test of the definition `tag_fits`: the ruleset tests closes them.
+use Rattle.base_laws.proofs.Tests.{tests}
+use Rattle.wire_varint.specs.Tag.{tag_fits}
+use Rattle.wire_varint.proofs.tag.tag_fits.Goals as goal
+
+pub returns-then-wire-le2 : goal.returns-then-wire-le2
+unfolding tag_fits
+returns-then-wire-le2 c = search tests
+
+pub returns-then-value-ge1 : goal.returns-then-value-ge1
+unfolding tag_fits
+returns-then-value-ge1 c = search tests
+
+pub returns-then-value-le-TAG_LIMIT : goal.returns-then-value-le-TAG_LIMIT
+unfolding tag_fits
+returns-then-value-le-TAG_LIMIT c = search tests
+
+pub returns : goal.returns
+unfolding tag_fits
+returns c = search tests

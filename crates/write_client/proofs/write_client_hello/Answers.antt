@@ -1,0 +1,15 @@
+-- Outcomes.same_outcome: the range is member_in's, the bytes (same_wrapped) are the hello's; Members.member_small bounds the member.
+use Rattle.write_message.proofs.Outcomes.{same_outcome, same_wrapped}
+use Rattle.write_message.proofs.Members.{member_small, plain_fits}
+use Rattle.write_pieces.specs.Parts.{cover, around}
+use Rattle.write_forms.specs.Pieces.{encode}
+use native.Mathlib.Omega.{arith}
+use mathlib.Core.Path.{refl}
+use Rattle.write_client.proofs.write_client_hello.Goals as goal
+
+pub returns : goal.returns
+unfolding encode around cover
+returns c =
+    let both = same_outcome c.write_plain.ensures _ _ _ refl
+    (plain_fits _ (λ h. member_small 13 13 _ (omega arith) c.member_in-fits.ensures h) c.member_in-fits.ensures)
+    (λ h. rw c.listed-p.ensures (same_wrapped _ _ _ refl)) in record { answer = both.0; buffer = both.1 }

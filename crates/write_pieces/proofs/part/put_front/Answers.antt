@@ -1,0 +1,42 @@
+-- A framed message puts the four bytes of its length, put_raw's contract; any other puts nothing, Puts.nothing.
+use native.Mathlib.Omega.{arith}
+use borrow.Author.Rules.{rules}
+use Rattle.write_forms.specs.Pieces.{front}
+use Rattle.base_copy.proofs.Puts.{nothing}
+use Rattle.write_pieces.proofs.part.put_front.Goals as goal
+
+pub overflow_cast-four : goal.overflow_cast-four
+unfolding front
+overflow_cast-four c = search rules
+
+pub overflow_cast-four-then-framed : goal.overflow_cast-four-then-framed
+unfolding front
+overflow_cast-four-then-framed c = search rules
+
+pub overflow_cast-four-then-framed-2 : goal.overflow_cast-four-then-framed-2
+unfolding front
+overflow_cast-four-then-framed-2 c = search rules
+
+pub overflow_cast-four-then-framed-3 : goal.overflow_cast-four-then-framed-3
+unfolding front
+overflow_cast-four-then-framed-3 c = search rules
+
+pub slice_bounds-put_raw-end : goal.slice_bounds-put_raw-end
+unfolding front
+slice_bounds-put_raw-end c = search rules
+
+pub put_raw-requires : goal.put_raw-requires
+unfolding front
+put_raw-requires c = omega (arith, simp c.if-framed.true at c.requires)
+
+pub shape_of-out-then-framed : goal.shape_of-out-then-framed
+unfolding front
+shape_of-out-then-framed c = search rules
+
+pub returns-then-framed : goal.returns-then-framed
+unfolding front
+returns-then-framed c = rw c.if-framed.true (search rules)
+
+pub returns : goal.returns
+unfolding front
+returns c = rw c.if-framed.false (nothing c.args.out.now 0 (omega arith))

@@ -1,0 +1,16 @@
+-- Outcomes.same_outcome: a note is the member's bytes themselves, Outcomes.same_note, for the members that Members.note_member tells.
+use Rattle.write_message.proofs.Outcomes.{same_outcome, same_note}
+use Rattle.write_message.proofs.Members.{note_member, plain_fits}
+use Rattle.write_pieces.specs.Parts.{cover, around}
+use Rattle.write_forms.specs.Pieces.{encode}
+use native.Mathlib.Omega.{arith}
+use mathlib.Core.Path.{refl}
+use Rattle.write_server.proofs.write_note.Goals as goal
+
+pub returns : goal.returns
+unfolding encode around cover
+returns c =
+    let both = let a = c.args in
+    same_outcome c.write_plain.ensures _ _ _ refl
+    (plain_fits a.member (λ h. let m = note_member a.member c.both-fits.ensures h in omega arith) c.both-fits.ensures)
+    (λ h. let m = note_member a.member refl h in rw c.listed-p.ensures (same_note a.member _ a.note.now (λ z. omega arith) refl)) in record { answer = both.0; buffer = both.1 }
