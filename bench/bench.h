@@ -1,6 +1,6 @@
 /*
  * bench.h: what the parts of the benchmark share. work.c makes the works; the contenders stand in protobuf_c.c,
- * protobuf_cpp.cc, by_hand.c, config_by_hand.c and library.c; main.c compares their answers and times them.
+ * protobuf_cpp.cc, by_hand.c and library.c; main.c compares their answers and times them.
  */
 #ifndef BENCH_H
 #define BENCH_H
@@ -21,8 +21,7 @@ enum kind {
     STREAM,  /* messages that are read, and stored in an area */
     RECORDS, /* a file that is checked, and restarted */
     POINTS,  /* commit points that are written */
-    PAIRS,   /* two files that are compared */
-    TEXTS    /* a configuration that is read */
+    PAIRS    /* two files that are compared */
 };
 
 struct message {
@@ -45,7 +44,7 @@ struct work {
     const char *id;
     char title[64];
     enum kind kind;
-    size_t count;  /* messages, records, points, pairs of records or 1,000 bytes of text in one pass */
+    size_t count;  /* messages, records, points or pairs of records in one pass */
     size_t rounds; /* how often a pass goes through the stream or the points; the area goes on from round to round */
 
     /* STREAM: frames one after the other. The session is opened by the accept `opening`; where that is empty each
@@ -70,17 +69,13 @@ struct work {
     struct message second;
     bool differ;
 
-    /* TEXTS: the area has room for the seven numbers and for any list of the text. */
-    struct message text;
-
     uint8_t *area;
     size_t area_n;
 };
 
 /* The works that there are, and one of them made; it ends the program where it can't. */
-enum { WORKS = 21 };
+enum { WORKS = 13 };
 const char *work_id(size_t which);
-bool is_tenfold(size_t which); /* the work before it again, with ten times the text */
 struct work make_work(size_t which);
 void drop_work(struct work *w);
 
@@ -163,8 +158,7 @@ enum answer {
     CHECKED,   /* RECORDS: what the file is */
     RESTARTED, /* RECORDS: what a restart keeps */
     WRITTEN,   /* POINTS: the frames in the area, and their length */
-    COMPARED,  /* PAIRS: an entry for each record in the area, and their length */
-    LISTED     /* TEXTS: seven numbers and the list in the area, and their length */
+    COMPARED   /* PAIRS: an entry for each record in the area, and their length */
 };
 
 struct contender {
@@ -179,7 +173,7 @@ struct contender {
 };
 
 /* Each ends with one that has no id. */
-extern const struct contender protobuf_c[], protobuf_cpp[], by_hand[], config_by_hand[], library[];
+extern const struct contender protobuf_c[], protobuf_cpp[], by_hand[], library[];
 #ifdef BESIDE
 extern const struct contender library_beside[];
 #endif
@@ -191,7 +185,6 @@ extern const struct contender library_beside[];
 #define RESTARTS "restart in the middle"
 #define WRITES "commit points written"
 #define COMPARES "two files compared"
-#define CONFIGURES "configuration read"
 
 #ifdef __cplusplus
 }

@@ -1,7 +1,6 @@
 /*
  * library.c: the library, through include/sudolog.h. bench/run --beside compiles this file twice, for two libraries:
- * CONTENDERS, ID and NAME tell them apart. One whose header has no sudolog_compare_files is compiled WITHOUT_COMPARE, one that
- * has no sudolog_read_config WITHOUT_CONFIG.
+ * CONTENDERS, ID and NAME tell them apart, and one whose header has no sudolog_compare_files is compiled WITHOUT_COMPARE.
  */
 #include "bench.h"
 #include "sudolog.h"
@@ -201,18 +200,6 @@ static uint64_t compare_pass(const struct work *w)
 }
 #endif
 
-/* ---- configurations ---- */
-
-#ifndef WITHOUT_CONFIG
-static uint64_t config_pass(const struct work *w)
-{
-    uint8_t *list = w->area + SUDOLOG_CONFIG_SIZE;
-    if (sudolog_read_config(w->text.bytes, w->text.n, list, w->area_n - SUDOLOG_CONFIG_SIZE, w->area, SUDOLOG_CONFIG_SIZE) != 0)
-        return 0;
-    return SUDOLOG_CONFIG_SIZE + sudolog_big_endian(w->area + 8); /* how many bytes were listed */
-}
-#endif
-
 const struct contender CONTENDERS[] = {
     { ID "-scan", READS, NAME ", `sudolog_scan_client`", MEMBERS, false, false, scan_pass, scan_digest },
     { ID "-read", READS, NAME ", `sudolog_read_client_message`", MEMBERS, false, false, read_members_pass,
@@ -225,9 +212,6 @@ const struct contender CONTENDERS[] = {
     { ID "-write", WRITES, NAME ", `sudolog_write_time`", WRITTEN, false, false, write_pass, NULL },
 #ifndef WITHOUT_COMPARE
     { ID "-compare", COMPARES, NAME ", `sudolog_compare_files`", COMPARED, false, false, compare_pass, NULL },
-#endif
-#ifndef WITHOUT_CONFIG
-    { ID "-config", CONFIGURES, NAME ", `sudolog_read_config`", LISTED, false, false, config_pass, NULL },
 #endif
     { NULL, NULL, NULL, MEMBERS, false, false, NULL, NULL },
 };

@@ -1,9 +1,8 @@
 /*
  * main.c: compares the contenders' answers, times them and prints the tables. bench/run builds and calls it:
  *
- *   bench time REPETITIONS TIMES     all tables; each single time in nanoseconds goes to the file TIMES. Exit status 1 where the
- *                                    library takes more than 11 times the time for ten times the text, by bests
- *   bench compare                    no times: only whether the contenders answer the same, work by work; not of texts of 10 MB
+ *   bench time REPETITIONS TIMES     all tables; each single time in nanoseconds goes to the file TIMES
+ *   bench compare                    no times: only whether the contenders answer the same, work by work
  *   bench pairs                      a line for each work and contender whose instructions are counted, with tabs between:
  *                                    what is counted, work, contender, how many a pass has, the table's words for them
  *   bench once WORK CONTENDER        one pass inside the function `counted`, after one that warms up
@@ -18,7 +17,7 @@
 #include <string.h>
 #include <time.h>
 
-enum { MOST = 40, ANSWERS = LISTED + 1 };
+enum { MOST = 32, ANSWERS = COMPARED + 1 };
 
 struct result {
     bool timed;
@@ -43,23 +42,19 @@ static void stop(const char *what, const char *work, const char *contender)
 static void gather_row(const char *row, const struct contender *c)
 {
     for (; c->id != NULL; c++)
-        if (strcmp(c->row, row) == 0) {
-            if (all_n == MOST)
-                stop("too many contenders", "-", c->id);
+        if (strcmp(c->row, row) == 0 && all_n < MOST)
             all[all_n++] = c;
-        }
 }
 
 /* In the order of the tables' rows. */
 static void gather(void)
 {
-    static const char *const rows[] = { READS, READS_ALL, STORES, CHECKS, RESTARTS, COMPARES, WRITES, CONFIGURES };
+    static const char *const rows[] = { READS, READS_ALL, STORES, CHECKS, RESTARTS, COMPARES, WRITES };
     size_t i;
     for (i = 0; i < sizeof rows / sizeof rows[0]; i++) {
         gather_row(rows[i], protobuf_c);
         gather_row(rows[i], protobuf_cpp);
         gather_row(rows[i], by_hand);
-        gather_row(rows[i], config_by_hand);
         gather_row(rows[i], library);
 #ifdef BESIDE
         gather_row(rows[i], library_beside);
@@ -69,7 +64,7 @@ static void gather(void)
 
 static enum kind kind_of(enum answer answer)
 {
-    static const enum kind kinds[ANSWERS] = { STREAM, STREAM, STREAM, RECORDS, RECORDS, POINTS, PAIRS, TEXTS };
+    static const enum kind kinds[ANSWERS] = { STREAM, STREAM, STREAM, RECORDS, RECORDS, POINTS, PAIRS };
     return kinds[answer];
 }
 
@@ -97,11 +92,11 @@ static size_t contender_of(const char *id)
 /* ---- the comparison ---- */
 
 /* The contender that others with the same answer are held against: protobuf-c, or the library where it has none. A library beside may
- * be from before the comparison of files, or before configurations: there it is C by hand. */
+ * be from before the comparison of files: there it is C by hand. */
 static const struct contender *reference_for(enum answer answer)
 {
     static const char *const ids[ANSWERS] = { "protobuf-c",      "protobuf-c-values", "library-store", "library-check",
-                                              "library-restart", "protobuf-c-pack",   "hand-compare",  "hand-config" };
+                                              "library-restart", "protobuf-c-pack",   "hand-compare" };
     return all[contender_of(ids[answer])];
 }
 
@@ -112,11 +107,6 @@ static void compare_digests(const struct work *w, const struct contender *c, con
     for (at = 0; next_message(w, &at, &m);)
         if (c->digest(m) != reference->digest(m))
             stop("finds other values", w->id, c->id);
-}
-
-static bool leaves_bytes(enum answer answer)
-{
-    return answer == STORED || answer == WRITTEN || answer == COMPARED || answer == LISTED;
 }
 
 /* What a pass of the reference leaves in the area, a pass of c leaves too. */
@@ -148,7 +138,7 @@ static size_t compare(const struct work *w)
             stop("answers another sum", w->id, c->id);
         if (c->digest != NULL)
             compare_digests(w, c, reference);
-        if (leaves_bytes(c->answer))
+        if (c->answer == STORED || c->answer == WRITTEN || c->answer == COMPARED)
             compare_areas(w, c, reference);
         held += c != reference;
     }
@@ -159,8 +149,6 @@ static int compare_all(void)
 {
     size_t which, held = 0;
     for (which = 0; which < WORKS; which++) {
-        if (is_tenfold(which))
-            continue;
         made[which] = make_work(which);
         held += compare(&made[which]);
         drop_work(&made[which]);
@@ -200,68 +188,36 @@ static struct result result_of(double *times, size_t n)
     return r;
 }
 
-static double *room_for_times(size_t repetitions)
+/* Each repetition runs every contender once, after one that is not counted. */
+static void time_work(size_t which, size_t repetitions, FILE *log)
 {
+    const struct work *w = &made[which];
     double *times = calloc(MOST * repetitions, sizeof times[0]);
+    size_t i, k;
     if (times == NULL)
-        stop("no memory", "-", "-");
-    return times;
-}
-
-/* Every contender once. */
-static void time_repetition(const struct work *w, size_t k, size_t repetitions, double *times, FILE *log)
-{
-    size_t i;
+        stop("no memory", w->id, "-");
+    for (k = 0; k <= repetitions; k++)
+        for (i = 0; i < all_n; i++)
+            if (is_timed(all[i], w)) {
+                double t = time_pass(all[i], w);
+                if (k == 0)
+                    continue;
+                times[i * repetitions + k - 1] = t;
+                fprintf(log, "%s\t%s\t%zu\t%.0f\n", w->id, all[i]->id, k, t);
+            }
     for (i = 0; i < all_n; i++)
-        if (is_timed(all[i], w)) {
-            double t = time_pass(all[i], w);
-            if (k == 0)
-                continue;
-            times[i * repetitions + k - 1] = t;
-            fprintf(log, "%s\t%s\t%zu\t%.0f\n", w->id, all[i]->id, k, t);
-        }
-}
-
-static void take_results(size_t which, size_t repetitions, double *times)
-{
-    size_t i;
-    for (i = 0; i < all_n; i++)
-        if (is_timed(all[i], &made[which]))
+        if (is_timed(all[i], w))
             results[which][i] = result_of(times + i * repetitions, repetitions);
     free(times);
 }
 
-/* Each repetition, after one that is not counted, runs every contender once on each of the works from one up to another. */
-static void time_works(size_t from, size_t to, size_t repetitions, FILE *log)
+static void run_work(size_t which, size_t repetitions, FILE *log)
 {
-    double *times[WORKS];
-    size_t which, k;
-    for (which = from; which < to; which++)
-        times[which] = room_for_times(repetitions);
-    for (k = 0; k <= repetitions; k++)
-        for (which = from; which < to; which++)
-            time_repetition(&made[which], k, repetitions, times[which], log);
-    for (which = from; which < to; which++)
-        take_results(which, repetitions, times[which]);
-}
-
-static void run_works(size_t from, size_t to, size_t repetitions, FILE *log)
-{
-    size_t which;
-    for (which = from; which < to; which++) {
-        fprintf(stderr, "bench: %s\n", work_id(which));
-        made[which] = make_work(which);
-        compare(&made[which]);
-    }
-    time_works(from, to, repetitions, log);
-    for (which = from; which < to; which++)
-        drop_work(&made[which]);
-}
-
-/* A text and the one of ten times its length are timed in turn, since their times are held against each other. */
-static size_t end_of_group(size_t which)
-{
-    return which + 1 < WORKS && is_tenfold(which + 1) ? which + 2 : which + 1;
+    fprintf(stderr, "bench: %s\n", work_id(which));
+    made[which] = make_work(which);
+    compare(&made[which]);
+    time_work(which, repetitions, log);
+    drop_work(&made[which]);
 }
 
 /* ---- the tables ---- */
@@ -340,79 +296,14 @@ static void print_file_times(void)
             print_row(i, RECORDS, contender_of(all[i]->answer == CHECKED ? "hand-check" : "hand-restart"), TIME);
 }
 
-/* How many times the time of a tenth of the text, by medians and by bests. */
-static struct result growth(size_t which, size_t i)
-{
-    struct result whole = results[which][i], tenth = results[which - 1][i];
-    whole.median /= tenth.median;
-    whole.best /= tenth.best;
-    return whole;
-}
-
-static void print_growth_row(size_t i)
-{
-    size_t which;
-    printf("| %s |", all[i]->title);
-    for (which = 0; which < WORKS; which++)
-        if (is_tenfold(which)) {
-            printf(" ");
-            print_figure(growth(which, i).median);
-            printf(" (");
-            print_figure(growth(which, i).best);
-            printf(") |");
-        }
-    printf("\n");
-}
-
-/* A column for each text of 10 MB. */
-static void print_growth(void)
-{
-    size_t which, i;
-    printf("\n| time of 10 MB, as a multiple of 1 MB |");
-    for (which = 0; which < WORKS; which++)
-        if (is_tenfold(which))
-            printf(" %s |", made[which].title);
-    printf("\n|---|");
-    for (which = 0; which < WORKS; which++)
-        if (is_tenfold(which))
-            printf("---|");
-    printf("\n");
-    for (i = 0; i < all_n; i++)
-        if (all[i]->answer == LISTED)
-            print_growth_row(i);
-}
-
-/* Is a contender's time linear in the text: ten times the text takes at most 11 times the time. By bests: what else goes on in the machine
- * costs a text that leaves the caches more than its tenth, which stays in them. */
-static bool is_linear(size_t i)
-{
-    size_t which;
-    for (which = 0; which < WORKS; which++)
-        if (is_tenfold(which) && growth(which, i).best > 11) {
-            fprintf(stderr, "bench: more than 11 times the time for ten times the text: %s, %s\n", made[which].id, all[i]->id);
-            return false;
-        }
-    return true;
-}
-
-/* Of the two libraries in a program only the first is held to it; it may be from before configurations. */
-static int status_of_times(void)
-{
-    size_t i;
-    for (i = 0; i < all_n; i++)
-        if (strcmp(all[i]->id, "library-config") == 0 && !is_linear(i))
-            return 1;
-    return 0;
-}
-
 static int time_all(size_t repetitions, const char *path)
 {
     FILE *log = fopen(path, "w");
     size_t which;
     if (log == NULL || repetitions == 0)
         stop("no repetitions, or no file for the times", "-", path);
-    for (which = 0; which < WORKS; which = end_of_group(which))
-        run_works(which, end_of_group(which), repetitions, log);
+    for (which = 0; which < WORKS; which++)
+        run_work(which, repetitions, log);
     fclose(log);
     print_table("speed, as a multiple of protobuf-c's unpack", MEMBERS, STORED, "protobuf-c", SPEED);
     print_table("speed, as a multiple of memcpy into the same area", STORED, STORED, "memcpy", SPEED);
@@ -421,11 +312,8 @@ static int time_all(size_t repetitions, const char *path)
     print_table("time, as a multiple of the comparison by hand", COMPARED, COMPARED, "hand-compare", TIME);
     print_table("nanoseconds for each pair of records", COMPARED, COMPARED, "hand-compare", EACH);
     print_table("speed, as a multiple of protobuf-c's pack", WRITTEN, WRITTEN, "protobuf-c-pack", SPEED);
-    print_table("time, as a multiple of C by hand, lines cut in memory", LISTED, LISTED, "hand-config", TIME);
-    print_table("nanoseconds for each 1,000 bytes", LISTED, LISTED, "hand-config", EACH);
-    print_growth();
     fprintf(stderr, "bench: all answers together: %llu\n", (unsigned long long)sink);
-    return status_of_times();
+    return 0;
 }
 
 /* ---- instructions ---- */
@@ -435,8 +323,6 @@ static bool is_counted(size_t which)
 {
     static const char *const left_out[] = { "large", "file", "file-empty", "pair-large", "pair" };
     size_t i;
-    if (is_tenfold(which))
-        return false;
     for (i = 0; i < sizeof left_out / sizeof left_out[0]; i++)
         if (strcmp(work_id(which), left_out[i]) == 0)
             return false;
@@ -455,7 +341,7 @@ static struct work make_short(size_t which)
 
 static void print_pair(const struct contender *c, const struct work *w)
 {
-    static const char *const units[] = { "message", "record", "commit point", "pair of records", "1,000 bytes of text" };
+    static const char *const units[] = { "message", "record", "commit point", "pair of records" };
     printf("%s\t%s\t%s\t%zu\t%s\t%s\t%s\n", units[w->kind], w->id, c->id, w->count, w->title, c->row, c->title);
 }
 

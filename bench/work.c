@@ -12,7 +12,7 @@
 
 #define REAL_STREAM "tests/streams/sudo-2-real.client"
 
-enum { HEADER = 11, LONGEST = 65536, AROUND = 64, ACCEPT_ROOM = 4096, MEGABYTE = 1000000 };
+enum { HEADER = 11, LONGEST = 65536, AROUND = 64, ACCEPT_ROOM = 4096 };
 
 static void stop(const char *why)
 {
@@ -390,98 +390,6 @@ static void make_points(struct work *w, size_t n, size_t rounds)
     w->area = room_for(w->area_n);
 }
 
-/* ---- configurations ---- */
-
-enum { LINE_ROOM = 512 };
-
-/* So many of some characters. */
-static size_t some_of(const char *characters, uint64_t n, char *out)
-{
-    size_t i, kinds = strlen(characters);
-    for (i = 0; i < n; i++)
-        out[i] = characters[below(kinds)];
-    return n;
-}
-
-static size_t some_word(uint64_t least, uint64_t most, char *out)
-{
-    return some_of("aaabbcdeeefghiiklmnooprrsstttuv_/.:%{}0123456789ABC", between(least, most), out);
-}
-
-static size_t some_blanks(uint64_t most, char *out)
-{
-    return some_of("   \t", between(0, most), out);
-}
-
-static size_t copy_string(const char *string, char *out)
-{
-    memcpy(out, string, strlen(string));
-    return strlen(string);
-}
-
-/* A setting; now and then a typed one, or a header before it. */
-static size_t setting_line(char *out)
-{
-    static const char *const lines[] = { "[server]\n", "[Relay]\n", "[iolog]\nmaxseq = 2176782336\n", "[eventlog]\n",
-                                         "[syslog]\n", "[logfile]\n", "timeout = 30\n", "TCP_keepalive = true\n" };
-    size_t n = 0;
-    if (below(8) == 0)
-        n = copy_string(lines[below(sizeof lines / sizeof lines[0])], out);
-    n += some_of("abcdefghilmnoprstuwy_", between(5, 20), out + n);
-    n += copy_string(" = ", out + n);
-    n += some_word(1, 40, out + n);
-    return n + copy_string("\n", out + n);
-}
-
-/* A line that is a comment or a remark from its start on. */
-static size_t comment_line(char *out)
-{
-    size_t n = copy_string(below(4) == 0 ? "; " : "# ", out);
-    n += some_of("abcdefghilmnoprstuwy     =.,", between(10, 76), out + n);
-    return n + copy_string("\n", out + n);
-}
-
-/* A piece of a value that goes on in the next line. */
-static size_t piece_line(char *out)
-{
-    size_t n = some_blanks(12, out);
-    n += some_word(1, 60, out + n);
-    return n + copy_string(" \\\n", out + n);
-}
-
-/* Blanks alone, or round a short setting. */
-static size_t blank_line(char *out)
-{
-    size_t n = some_blanks(60, out);
-    if (below(4) == 0) {
-        n += copy_string("key", out + n);
-        n += some_blanks(60, out + n);
-        n += copy_string("=", out + n);
-        n += some_blanks(60, out + n);
-        n += copy_string("value", out + n);
-        n += some_blanks(60, out + n);
-    }
-    return n + copy_string("\n", out + n);
-}
-
-/* A start and lines behind it, as many as the text has room for; line feeds in what is left. */
-static void make_text(struct work *w, const char *start, size_t (*make_line)(char *), bool tenfold)
-{
-    size_t n = tenfold ? 10 * MEGABYTE : MEGABYTE;
-    char line[LINE_ROOM], *text = room_for(n);
-    size_t at = copy_string(start, text), line_n;
-    for (line_n = make_line(line); at + line_n <= n; line_n = make_line(line)) {
-        memcpy(text + at, line, line_n);
-        at += line_n;
-    }
-    memset(text + at, '\n', n - at);
-    w->kind = TEXTS;
-    w->count = n / 1000;
-    w->text = (struct message){ (uint8_t *)text, n };
-    w->area_n = SUDOLOG_CONFIG_SIZE + 7 * n;
-    w->area = room_for(w->area_n);
-}
-
 /* ---- by number ---- */
 
 static const char *const works[WORKS][2] = {
@@ -498,24 +406,11 @@ static const char *const works[WORKS][2] = {
     { "pair", "1,000,000 of 10 to 100 bytes" },
     { "pair-quarter", "250,000 of 10 to 100 bytes" },
     { "pair-differ", "250,000, one of 16 differs" },
-    { "settings", "settings, 1 MB" },
-    { "settings-10", "settings, 10 MB" },
-    { "comments", "comments, 1 MB" },
-    { "comments-10", "comments, 10 MB" },
-    { "joined", "one joined line, 1 MB" },
-    { "joined-10", "one joined line, 10 MB" },
-    { "blanks", "blanks, 1 MB" },
-    { "blanks-10", "blanks, 10 MB" },
 };
 
 const char *work_id(size_t which)
 {
     return works[which][0];
-}
-
-bool is_tenfold(size_t which)
-{
-    return strstr(works[which][0], "-10") != NULL;
 }
 
 struct work make_work(size_t which)
@@ -535,14 +430,7 @@ struct work make_work(size_t which)
     case 9: make_pair(&w, 512, LONGEST, LONGEST, false); break;
     case 10: make_pair(&w, 1000000, 10, 100, false); break;
     case 11: make_pair(&w, 250000, 10, 100, false); break;
-    case 12: make_pair(&w, 250000, 10, 100, true); break;
-    case 13:
-    case 14: make_text(&w, "[server]\n", setting_line, is_tenfold(which)); break;
-    case 15:
-    case 16: make_text(&w, "", comment_line, is_tenfold(which)); break;
-    case 17:
-    case 18: make_text(&w, "[server]\nkey = ", piece_line, is_tenfold(which)); break;
-    default: make_text(&w, "[server]\n", blank_line, is_tenfold(which)); break;
+    default: make_pair(&w, 250000, 10, 100, true); break;
     }
     return w;
 }
@@ -557,5 +445,4 @@ void drop_work(struct work *w)
     free((void *)w->restart.bytes);
     free((void *)w->first.bytes);
     free((void *)w->second.bytes);
-    free((void *)w->text.bytes);
 }

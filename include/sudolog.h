@@ -4,19 +4,18 @@
  * The first part declares what libsudolog.a exports: functions on numbers and byte slices (a pointer
  * and a length). None of them trusts its caller: every slice of every length has an answer, nothing is
  * kept between calls, nothing is allocated, and a refusal writes nothing, but that a session's own 40 bytes
- * are closed by one, and its answer is laid in `out`, and that a configuration's bad line is laid in `numbers`. The
- * slices of one call must not overlap. No pointer may be NULL, even with length 0: where one might be, SUDOLOG_LEND
- * and its like, in the second part, lend it. The functions that give values are meant for slices that sudolog_decode
- * or sudolog_read takes; of any other slice they give those of the fields before the first that can't be read. Message
- * number 16 names what a packed list of numbers holds, varints and no fields; a number above 16 a message with no
- * fields: all are skipped.
+ * are closed by one, and its answer is laid in `out`. The slices of one call must not overlap. No pointer
+ * may be NULL, even with length 0: where one might be, SUDOLOG_LEND and its like, in the second part, lend
+ * it. The functions that give values are meant for slices that sudolog_decode or sudolog_read takes; of any
+ * other slice they give those of the fields before the first that can't be read. Message number 16 names
+ * what a packed list of numbers holds, varints and no fields; a number above 16 a message with no fields:
+ * all are skipped.
  *
  * The second part is written over the first, in C: a struct for each message of sudo_logsrv.proto and
  * a reader that fills it, and what a C program needs beside the writers. There a slice whose pointer is NULL
  * is an empty one, whatever length is given with it.
  *
- * Refusals are document 01's numbers and those that document 02 adds to its table, enum sudolog_refusal (docs/FORMAT.md
- * has the table); 0 says: no refusal.
+ * Refusals are document 01's numbers, enum sudolog_refusal (docs/FORMAT.md has the table); 0 says: no refusal.
  */
 #ifndef SUDOLOG_H
 #define SUDOLOG_H
@@ -44,7 +43,6 @@ extern "C" {
 #define SUDOLOG_SESSION_SIZE 40          /* a session's bytes */
 #define SUDOLOG_ANSWER_SIZE 40           /* the room that sudolog_session_message and sudolog_client want */
 #define SUDOLOG_RECORD_EXTRA 13          /* a stored record is at most so much longer than its message */
-#define SUDOLOG_CONFIG_SIZE 56           /* the room that sudolog_read_config wants for its numbers */
 
 /* Why something was refused. sudolog_refusal_text says it in words. */
 enum sudolog_refusal {
@@ -63,10 +61,7 @@ enum sudolog_refusal {
     SUDOLOG_NO_ROOM = 12,             /* the buffer or the area that was lent is full */
     SUDOLOG_FINISHED_FILE = 13,       /* a restart of a file that has its exit */
     SUDOLOG_NO_SUCH_POINT = 14,       /* no beginning of the file has the resume point */
-    SUDOLOG_NO_VALID_FILE = 15,       /* the used bytes are no file, or the lengths are wrong */
-    SUDOLOG_BAD_LINE = 16,            /* a line without = or key, or with [ first and no ] last */
-    SUDOLOG_NO_KNOWN_SECTION = 17,    /* a setting before any section, or in an unknown one */
-    SUDOLOG_BAD_SETTING = 18          /* a typed setting whose value is none of its type */
+    SUDOLOG_NO_VALID_FILE = 15        /* the used bytes are no file, or the lengths are wrong */
 };
 
 /* The messages of sudo_logsrv.proto. */
@@ -276,19 +271,6 @@ uint8_t sudolog_next_record(const uint8_t *area, size_t area_n, size_t used, siz
  * \t; all others as \xHH. Different bytes have different texts. Returns as the writers do; 12 where the text has no room
  * or more than 4,294,967,295 bytes. 4 bytes of room for each byte are enough. No zero is written behind the text. */
 uint64_t sudolog_escape(const uint8_t *data, size_t n, uint8_t *out, size_t room);
-
-/* ---- the collector's configuration ---- */
-
-/* Reads the text of a configuration file (request 1 of document 02; docs/CONFIG.md has its rules): 0, and in `out` its
- * settings in their order, of each the section and the key in lower case and the value, each of the three after its
- * length as 4 bytes, most significant byte first; 16, 17 or 18 of the first line that is bad; then 12 where the list has
- * no room or a length is above 4,294,967,295. In `numbers` seven numbers of 8 bytes, most significant byte first: the
- * bad line, counted from 1, or 0 for none; how many bytes were listed; server's timeout and tcp_keepalive (1 or 0),
- * relay's timeout and tcp_keepalive, iolog's maxseq, each as it counts. On 16 to 18 nothing is listed and the last five
- * are the defaults. On 12 nothing is written, in `numbers` neither; where `numbers_room` is below 56 the answer is 12
- * before the text is looked at. 7 bytes of room for each byte of the text are enough. */
-uint8_t sudolog_read_config(const uint8_t *text, size_t n, uint8_t *out, size_t room,
-                            uint8_t *numbers, size_t numbers_room);
 
 #ifdef __cplusplus
 }
@@ -919,9 +901,6 @@ static inline const char *sudolog_refusal_text(int refusal)
     case SUDOLOG_FINISHED_FILE: return "restart of a finished file";
     case SUDOLOG_NO_SUCH_POINT: return "no beginning of the file has the resume point";
     case SUDOLOG_NO_VALID_FILE: return "no valid file, or wrong lengths";
-    case SUDOLOG_BAD_LINE: return "line without = or key, or [ without ]";
-    case SUDOLOG_NO_KNOWN_SECTION: return "setting in no known section";
-    case SUDOLOG_BAD_SETTING: return "bad typed setting";
     default: return "no refusal of document 01";
     }
 }
@@ -1146,131 +1125,6 @@ static inline struct sudolog_difference sudolog_difference_at(const uint8_t *out
     difference.flags = (uint32_t)(entry >> 32);
     difference.offset = (uint32_t)(entry & UINT32_MAX);
     return difference;
-}
-
-/* ---- the collector's configuration: every setting, and the typed ones as numbers ----
- *
- *   uint8_t listing[65536];
- *   struct sudolog_config config;
- *   struct sudolog_setting setting;
- *   int refusal = sudolog_load_config(text, n, listing, sizeof listing, &config);
- *   if (refusal != 0)
- *       stop with config.line and sudolog_refusal_text(refusal);
- *   set the sockets' timeout to config.server_timeout;
- *   if (sudolog_find_setting(config.settings, "iolog", "iolog_dir", &setting))
- *       store below (listing + setting.value.offset, setting.value.length);
- *   while (sudolog_next_setting(&config.settings, &setting))
- *       print_key(listing + setting.key.offset, setting.key.length);
- */
-
-/* One setting: spans of the listing. */
-struct sudolog_setting {
-    struct sudolog_span section; /* server, relay, iolog, eventlog, syslog or logfile */
-    struct sudolog_span key;     /* in lower case, not empty */
-    struct sudolog_span value;   /* as it is written */
-};
-
-/* What is left of a listing: walk it with sudolog_next_setting. To walk it twice, copy the struct first. It points into
- * the listing, which must stay where it is. */
-struct sudolog_setting_list {
-    const uint8_t *m;
-    size_t n;
-    size_t at;
-};
-
-/* What sudolog_load_config returns beside the refusal. */
-struct sudolog_config {
-    size_t line;               /* of refusal 16 to 18, counted from 1; otherwise 0 */
-    size_t size;               /* of the listing; 0 on a refusal */
-    uint32_t server_timeout;   /* in seconds, 0 for none */
-    bool server_tcp_keepalive;
-    uint32_t relay_timeout;    /* in seconds, 0 for none */
-    bool relay_tcp_keepalive;
-    uint32_t maxseq;           /* iolog's: 1 to 2,176,782,336 */
-    struct sudolog_setting_list settings; /* none on a refusal */
-};
-
-/* The 56 bytes of numbers that sudolog_read_config writes, and the listing that they speak of, as a struct. */
-static inline void sudolog_get_config(const uint8_t *numbers, const uint8_t *listing, struct sudolog_config *config)
-{
-    config->line = (size_t)sudolog_big_endian(numbers);
-    config->size = (size_t)sudolog_big_endian(numbers + 8);
-    config->server_timeout = (uint32_t)sudolog_big_endian(numbers + 16);
-    config->server_tcp_keepalive = sudolog_big_endian(numbers + 24) != 0;
-    config->relay_timeout = (uint32_t)sudolog_big_endian(numbers + 32);
-    config->relay_tcp_keepalive = sudolog_big_endian(numbers + 40) != 0;
-    config->maxseq = (uint32_t)sudolog_big_endian(numbers + 48);
-    config->settings.m = sudolog_lend(listing);
-    config->settings.n = config->size;
-    config->settings.at = 0;
-}
-
-/* Reads a configuration file's text into a listing: its refusal, 0 for none. The config is filled in either way, on a
- * refusal with the defaults and no settings. A NULL text is the empty file, which has the defaults too. */
-static inline int sudolog_load_config(const uint8_t *text, size_t n, uint8_t *listing, size_t room,
-                                      struct sudolog_config *config)
-{
-    uint8_t numbers[SUDOLOG_CONFIG_SIZE];
-    int refusal;
-    /* 12 leaves the numbers as they were: those of the empty file. */
-    sudolog_read_config(SUDOLOG_LEND(NULL, 0), SUDOLOG_LEND_ROOM(NULL, 0), numbers, sizeof numbers);
-    refusal = sudolog_read_config(SUDOLOG_LEND(text, n), SUDOLOG_LEND_ROOM(listing, room), numbers, sizeof numbers);
-    sudolog_get_config(numbers, listing, config);
-    return refusal;
-}
-
-/* A length of 4 bytes and as many bytes behind it: 1, their span in out and the list moved behind them; or 0 and both
- * untouched where no such are left. */
-static inline int sudolog_next_counted(struct sudolog_setting_list *left, struct sudolog_span *out)
-{
-    const uint8_t *m = sudolog_lend(left->m);
-    size_t n = sudolog_lent(left->m, left->n), at = left->at, length;
-    if (at > n || n - at < 4)
-        return 0;
-    length = (size_t)m[at] << 24 | (size_t)m[at + 1] << 16 | (size_t)m[at + 2] << 8 | (size_t)m[at + 3];
-    if (n - at - 4 < length)
-        return 0;
-    out->offset = at + 4;
-    out->length = length;
-    left->at = at + 4 + length;
-    return 1;
-}
-
-/* 1 and the next setting in out; 0 and out untouched where none is left. */
-static inline int sudolog_next_setting(struct sudolog_setting_list *left, struct sudolog_setting *out)
-{
-    struct sudolog_setting_list rest = *left;
-    struct sudolog_setting setting;
-    if (!sudolog_next_counted(&rest, &setting.section) || !sudolog_next_counted(&rest, &setting.key) ||
-        !sudolog_next_counted(&rest, &setting.value))
-        return 0;
-    *left = rest;
-    *out = setting;
-    return 1;
-}
-
-/* Whether a span of m is a C string without its closing zero. */
-static inline bool sudolog_span_is(const uint8_t *m, struct sudolog_span span, const char *text)
-{
-    return span.length == sudolog_text_length(text) &&
-           memcmp(sudolog_lend(m) + span.offset, sudolog_text(text), span.length) == 0;
-}
-
-/* The setting of a section and a key, both named in lower case: 1 and in out the last one, which counts where one value
- * is wanted; 0 and out untouched where there is none. All of the listing is looked at, however far the list was walked. */
-static inline int sudolog_find_setting(struct sudolog_setting_list list, const char *section, const char *key,
-                                       struct sudolog_setting *out)
-{
-    struct sudolog_setting setting;
-    int found = 0;
-    list.at = 0;
-    while (sudolog_next_setting(&list, &setting)) {
-        if (sudolog_span_is(list.m, setting.section, section) && sudolog_span_is(list.m, setting.key, key)) {
-            *out = setting;
-            found = 1;
-        }
-    }
-    return found;
 }
 
 #endif

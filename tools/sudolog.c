@@ -1,11 +1,10 @@
 /*
- * sudolog.c: stored files on a terminal: whether they are valid, their records, what two of them differ in; and what the
- * collector's configuration file says.
+ * sudolog.c: stored files on a terminal: whether they are valid, their records, what two of them differ in.
  *
  * It reads files into memory (no mmap: a daemon may still write them), calls the library through include/sudolog.h, prints
- * lines. What is a file, a record or a setting, and what differs, is the library's answer. Every byte that comes from outside, a
- * file's or a file name's, is printed through sudolog_escape, so that none reaches the terminal as it is. From below: output,
- * reading, the walk over a file, a record's line, a configuration's lines, the four commands. The script ./sudolog builds and runs it.
+ * lines. What is a file or a record, and what differs, is the library's answer. Every byte that comes from outside, a file's or
+ * a file name's, is printed through sudolog_escape, so that none reaches the terminal as it is. From below: output, reading,
+ * the walk over a file, a record's line, the three commands. The script ./sudolog builds and runs it.
  */
 #define _DEFAULT_SOURCE
 
@@ -25,12 +24,10 @@ static const char usage[] =
     "usage: ./sudolog check FILE...\n"
     "       ./sudolog list FILE\n"
     "       ./sudolog compare FIRST SECOND\n"
-    "       ./sudolog config FILE\n"
-    "Shows recordings as the collector stored them, and its configuration file. A FILE named - is standard input.\n"
+    "Shows recordings as the collector stored them. A FILE named - is standard input.\n"
     "  check    a line for each file: whether it is valid and finished, its records, bytes and total time\n"
     "  list     a line for each record, below the accept its entries; the last line as check\n"
     "  compare  each record number at which the two differ: in what, and the record of each; the last line says how many\n"
-    "  config   a line for each setting, then the typed ones as they count; or the line that is refused, with its number\n"
     "Exit status: 0 all are valid, or no difference; 1 a file is refused, or there are differences; 2 wrong usage, or a file\n"
     "can't be read, or the output can't be written.\n";
 
@@ -41,9 +38,8 @@ enum status {
 };
 
 enum {
-    SHOWN = 48,  /* of a record's data, in bytes */
-    BEFORE = 8,  /* of them before the place where two data part */
-    BESIDES = 20 /* what a setting's listing has beside key and value: three lengths of 4 bytes, and at most "eventlog" */
+    SHOWN = 48, /* of a record's data, in bytes */
+    BEFORE = 8  /* of them before the place where two data part */
 };
 
 static const uint64_t second = 1000000000;
@@ -119,10 +115,7 @@ struct file {
 };
 
 /* One byte more than the greatest area: such a file is refused, and need not be read further. */
-static const size_t most_stored = (size_t)SUDOLOG_AREA_MAX + 1;
-
-/* Memory ends long before; and the listing's room, at most 21 bytes for each, is no number that wraps. */
-static const size_t most_text = SIZE_MAX / 32;
+static const size_t most_bytes = (size_t)SUDOLOG_AREA_MAX + 1;
 
 static bool is_standard_input(const char *name)
 {
@@ -130,12 +123,12 @@ static bool is_standard_input(const char *name)
 }
 
 /* One byte more than the file has, so that its end is found without growing. */
-static size_t first_room(int from, size_t most)
+static size_t first_room(int from)
 {
     struct stat about;
     if (fstat(from, &about) != 0 || about.st_size <= 0)
         return 65536;
-    return (uintmax_t)about.st_size < most ? (size_t)about.st_size + 1 : most;
+    return (uintmax_t)about.st_size < most_bytes ? (size_t)about.st_size + 1 : most_bytes;
 }
 
 /* Most of the time for a large file is the first touch of its pages: so large ones, where the system has them. It is a wish, and
@@ -164,73 +157,52 @@ static bool grow(struct file *file, size_t room)
     return true;
 }
 
-/* True at the end of the file or of the most bytes; false with errno set. */
-static bool read_bytes(int from, size_t most, struct file *file)
+/* True at the end of the file or of most_bytes; false with errno set. */
+static bool read_bytes(int from, struct file *file)
 {
-    size_t room = first_room(from, most);
+    size_t room = first_room(from);
     ssize_t got;
     if (!grow(file, room))
         return false;
     do {
         if (file->length == room) {
-            room = room < most / 2 ? 2 * room : most;
+            room = room < most_bytes / 2 ? 2 * room : most_bytes;
             if (!grow(file, room))
                 return false;
         }
         got = read(from, file->bytes + file->length, room - file->length);
         if (got > 0)
             file->length += (size_t)got;
-    } while (file->length < most && (got > 0 || (got < 0 && errno == EINTR)));
+    } while (file->length < most_bytes && (got > 0 || (got < 0 && errno == EINTR)));
     return got >= 0;
 }
 
-static void tell_unread(const char *name, const char *reason)
+/* errno says why not. */
+static void tell_unread(const char *name)
 {
+    int reason = errno;
     flush_output();
     fputs("sudolog: can't read ", stderr);
     put_name(stderr, name);
-    fprintf(stderr, ": %s\n", reason);
+    fprintf(stderr, ": %s\n", strerror(reason));
 }
 
-/* Whether it was read: then the bytes are to be freed. Where it could not be opened errno says why. */
-static bool read_opened(int from, const char *name, size_t most, struct file *file)
+/* Whether it was read: then the bytes are to be freed. */
+static bool read_file(const char *name, struct file *file)
 {
+    int from = is_standard_input(name) ? STDIN_FILENO : open(name, O_RDONLY);
     bool done;
     file->name = name;
     file->bytes = NULL;
     file->length = 0;
-    done = from >= 0 && read_bytes(from, most, file);
+    done = from >= 0 && read_bytes(from, file);
     if (!done) {
-        tell_unread(name, strerror(errno));
+        tell_unread(name);
         free(file->bytes);
     }
     if (from >= 0 && !is_standard_input(name))
         close(from);
     return done;
-}
-
-static bool read_file(const char *name, struct file *file)
-{
-    return read_opened(is_standard_input(name) ? STDIN_FILENO : open(name, O_RDONLY), name, most_stored, file);
-}
-
-static bool is_regular(int from)
-{
-    struct stat about;
-    return fstat(from, &about) == 0 && S_ISREG(about.st_mode);
-}
-
-/* A configuration is read by its name from a regular file alone: a device may have no end. O_NONBLOCK, since a pipe would wait for
- * whoever writes to it. Standard input is the caller's choice. */
-static bool read_text(const char *name, struct file *file)
-{
-    int from = is_standard_input(name) ? STDIN_FILENO : open(name, O_RDONLY | O_NONBLOCK);
-    if (from >= 0 && !is_standard_input(name) && !is_regular(from)) {
-        tell_unread(name, "not a regular file");
-        close(from);
-        return false;
-    }
-    return read_opened(from, name, most_text, file);
 }
 
 /* ---- the walk over a file ---- */
@@ -426,144 +398,7 @@ static void put_entries(const uint8_t *data, struct sudolog_accept *accept)
         put_entry(data, &entry);
 }
 
-/* ---- a configuration's lines ---- */
-
-static void put_setting(const uint8_t *listing, const struct sudolog_setting *setting)
-{
-    fputs("[", stdout);
-    put_escaped(stdout, listing + setting->section.offset, setting->section.length);
-    fputs("] ", stdout);
-    put_escaped(stdout, listing + setting->key.offset, setting->key.length);
-    fputs(" = ", stdout);
-    put_escaped(stdout, listing + setting->value.offset, setting->value.length);
-    end_line();
-}
-
-static void put_typed_number(const char *what, uint32_t number)
-{
-    printf("%s: %" PRIu32, what, number);
-    end_line();
-}
-
-static void put_typed_flag(const char *what, bool flag)
-{
-    printf("%s: %s", what, flag ? "true" : "false");
-    end_line();
-}
-
-static void put_config(const uint8_t *listing, struct sudolog_config *config)
-{
-    struct sudolog_setting setting;
-    while (sudolog_next_setting(&config->settings, &setting))
-        put_setting(listing, &setting);
-    put_typed_number("server timeout", config->server_timeout);
-    put_typed_flag("server tcp_keepalive", config->server_tcp_keepalive);
-    put_typed_number("relay timeout", config->relay_timeout);
-    put_typed_flag("relay tcp_keepalive", config->relay_tcp_keepalive);
-    put_typed_number("iolog maxseq", config->maxseq);
-}
-
-/* The line that begins at a place, without the line feed that ends it; an empty one behind the end. */
-static struct sudolog_span line_from(const struct file *file, size_t at)
-{
-    struct sudolog_span line;
-    const uint8_t *feed;
-    line.offset = at < file->length ? at : file->length;
-    line.length = file->length - line.offset;
-    feed = memchr(file->bytes + line.offset, '\n', line.length);
-    if (feed != NULL)
-        line.length = (size_t)(feed - file->bytes) - line.offset;
-    return line;
-}
-
-static struct sudolog_span next_line(const struct file *file, struct sudolog_span line)
-{
-    return line_from(file, line.offset + line.length + 1);
-}
-
-/* The line with a number, counted from 1. */
-static struct sudolog_span line_of(const struct file *file, size_t number)
-{
-    struct sudolog_span line = line_from(file, 0);
-    size_t k;
-    for (k = 1; k < number; k++)
-        line = next_line(file, line);
-    return line;
-}
-
-/* Whether the next line is joined to this one: a backslash is last once the comment is gone. */
-static bool is_joining(const struct file *file, struct sudolog_span line)
-{
-    const uint8_t *bytes = file->bytes + line.offset, *comment = memchr(bytes, '#', line.length);
-    size_t n = comment != NULL ? (size_t)(comment - bytes) : line.length;
-    return n > 0 && bytes[n - 1] == '\\';
-}
-
-static bool ends_in_return(const struct file *file, struct sudolog_span line)
-{
-    return line.length > 0 && file->bytes[line.offset + line.length - 1] == '\r';
-}
-
-/* Of a line, or of the last that is joined to it. A hint beside the library's refusal: no editor shows the byte, and sudo drops it. */
-static bool has_return(const struct file *file, struct sudolog_span line)
-{
-    bool found = ends_in_return(file, line);
-    while (is_joining(file, line))
-        line = next_line(file, line);
-    return found || ends_in_return(file, line);
-}
-
-static void put_place(const struct file *file, size_t number)
-{
-    put_name(stdout, file->name);
-    printf(":%zu: ", number);
-}
-
-static void put_bad_line(const struct file *file, int refusal, size_t number)
-{
-    struct sudolog_span line = line_of(file, number);
-    put_place(file, number);
-    printf("refused %d, %s: ", refusal, sudolog_refusal_text(refusal));
-    put_escaped(stdout, file->bytes + line.offset, line.length);
-    end_line();
-    if (has_return(file, line)) {
-        put_place(file, number);
-        fputs("the line ends in a carriage return", stdout);
-        end_line();
-    }
-}
-
-/* 12 has no line. Since the list has its room, a length is what is refused. */
-static void put_too_long(const struct file *file)
-{
-    put_name(stdout, file->name);
-    printf(": refused %d, %s: a key or a value is longer than %" PRIu32 " bytes", SUDOLOG_NO_ROOM,
-           sudolog_refusal_text(SUDOLOG_NO_ROOM), UINT32_MAX);
-    end_line();
-}
-
-/* Enough for every listing of the text: a setting stands behind a line feed, since a section is opened before it, and so there are
- * no more of them than line feeds; and the bytes of their keys and values are the text's, each listed once. */
-static size_t listing_room(const struct file *file)
-{
-    const uint8_t *at = file->bytes, *end = file->bytes + file->length;
-    size_t feeds = 0;
-    while ((at = memchr(at, '\n', (size_t)(end - at))) != NULL) {
-        feeds++;
-        at++;
-    }
-    return file->length + BESIDES * feeds;
-}
-
 /* ---- the commands: each returns the exit status ---- */
-
-static enum status fail_at(const char *what)
-{
-    const char *reason = strerror(errno);
-    flush_output();
-    fprintf(stderr, "sudolog: can't %s: %s\n", what, reason);
-    return STATUS_FAILED;
-}
 
 /* What the records are that the walk, at its end, went over. */
 static void put_sums(const struct walk *walk)
@@ -759,8 +594,11 @@ static enum status compare_files(const struct file *files)
     uint8_t *entries = malloc(room + 1); /* never of no bytes: that may give NULL */
     uint64_t written;
     enum status status;
-    if (entries == NULL)
-        return fail_at("compare");
+    if (entries == NULL) {
+        flush_output();
+        fprintf(stderr, "sudolog: can't compare: %s\n", strerror(errno));
+        return STATUS_FAILED;
+    }
     written = sudolog_compare_files(files[0].bytes, files[0].length, files[0].length,
                                     files[1].bytes, files[1].length, files[1].length, entries, room);
     if (sudolog_written_refusal(written) != 0)
@@ -780,36 +618,6 @@ static enum status compare(char **names)
         free(files[0].bytes);
     if (second_read)
         free(files[1].bytes);
-    return status;
-}
-
-static enum status show_config(const struct file *file)
-{
-    size_t room = listing_room(file);
-    uint8_t *listing = malloc(room + 1); /* never of no bytes: that may give NULL */
-    struct sudolog_config config;
-    int refusal;
-    if (listing == NULL)
-        return fail_at("list");
-    refusal = sudolog_load_config(file->bytes, file->length, listing, room, &config);
-    if (refusal == 0)
-        put_config(listing, &config);
-    else if (refusal == SUDOLOG_NO_ROOM)
-        put_too_long(file);
-    else
-        put_bad_line(file, refusal, config.line);
-    free(listing);
-    return refusal == 0 ? STATUS_FINE : STATUS_FOUND;
-}
-
-static enum status config(const char *name)
-{
-    struct file file;
-    enum status status;
-    if (!read_text(name, &file))
-        return STATUS_FAILED;
-    status = show_config(&file);
-    free(file.bytes);
     return status;
 }
 
@@ -836,8 +644,6 @@ static enum status run(int count, char **words)
             return list(words[1]);
         if (count == 3 && strcmp(words[0], "compare") == 0)
             return compare(words + 1);
-        if (count == 2 && strcmp(words[0], "config") == 0)
-            return config(words[1]);
     }
     fputs(usage, stderr);
     return STATUS_FAILED;

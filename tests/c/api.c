@@ -84,7 +84,7 @@ static void version(void)
     CHECK(sudolog_version() == SUDOLOG_VERSION);
 }
 
-/* Document 01's table, row by row, with the three rows of request 1. */
+/* Document 01's table, row by row. */
 static void refusals_have_names(void)
 {
     static const int rows[] = { SUDOLOG_TAKEN,         SUDOLOG_TOO_LONG,        SUDOLOG_BAD_VARINT,
@@ -92,23 +92,22 @@ static void refusals_have_names(void)
                                 SUDOLOG_NO_MEMBER,     SUDOLOG_OUT_OF_RANGE,    SUDOLOG_ENTRY_MISSING,
                                 SUDOLOG_NOT_ITS_TURN,  SUDOLOG_TOTAL_TOO_GREAT, SUDOLOG_ZERO_AT_RESTART,
                                 SUDOLOG_NO_ROOM,       SUDOLOG_FINISHED_FILE,   SUDOLOG_NO_SUCH_POINT,
-                                SUDOLOG_NO_VALID_FILE, SUDOLOG_BAD_LINE,        SUDOLOG_NO_KNOWN_SECTION,
-                                SUDOLOG_BAD_SETTING };
+                                SUDOLOG_NO_VALID_FILE };
     int k;
-    CHECK(sizeof rows / sizeof rows[0] == 19);
-    for (k = 0; k < 19; k++)
+    CHECK(sizeof rows / sizeof rows[0] == 16);
+    for (k = 0; k < 16; k++)
         CHECK(rows[k] == k);
 }
 
-/* Words of its own for 0 to 18, and the same for every number that is none. docs/FORMAT.md has them: tests/pages. */
+/* Words of its own for 0 to 15, and the same for every number that is none. docs/FORMAT.md has them: tests/pages. */
 static void refusals_have_words(void)
 {
-    static const int others[] = { INT_MIN, -16, -1, 20, 255, 256, 65536, INT_MAX };
-    const char *none = sudolog_refusal_text(19);
+    static const int others[] = { INT_MIN, -16, -1, 17, 255, 256, 65536, INT_MAX };
+    const char *none = sudolog_refusal_text(16);
     size_t i;
     int k, j;
     CHECK(none != NULL && none[0] != '\0');
-    for (k = 0; k < 19; k++) {
+    for (k = 0; k < 16; k++) {
         const char *words = sudolog_refusal_text(k);
         CHECK(words != NULL && words[0] != '\0' && strcmp(words, none) != 0);
         for (j = 0; j < k; j++)
@@ -120,11 +119,11 @@ static void refusals_have_words(void)
     CHECK(strcmp(sudolog_refusal_text(SUDOLOG_NOT_ITS_TURN), "not this state's turn") == 0);
 }
 
-/* The numbers; that they are the library's is seen where each is used: below, in session.c and in configured.c. */
+/* The numbers; that they are the library's is seen where each is used: below, and in session.c. */
 static void limits_have_names(void)
 {
     CHECK(SUDOLOG_MESSAGE_MAX == 2097152 && SUDOLOG_FRAME_MAX == 2097156 && SUDOLOG_AREA_MAX == 1073741824);
-    CHECK(SUDOLOG_SESSION_SIZE == 40 && SUDOLOG_ANSWER_SIZE == 40 && SUDOLOG_RECORD_EXTRA == 13 && SUDOLOG_CONFIG_SIZE == 56);
+    CHECK(SUDOLOG_SESSION_SIZE == 40 && SUDOLOG_ANSWER_SIZE == 40 && SUDOLOG_RECORD_EXTRA == 13);
     CHECK(sizeof(struct sudolog_session) == SUDOLOG_SESSION_SIZE);
 }
 

@@ -17,8 +17,7 @@
  *                     it is called twice, over different bytes, and "touched":true is added where a byte
  *                     beyond those written was changed, "differs":true where the two answers do.
  *
- * driver_sessions.c has the requests about areas, sessions and files, driver_files.c those about the records of files,
- * driver_config.c the one about a configuration.
+ * driver_sessions.c has the requests about areas, sessions and files, driver_files.c those about the records of files.
  */
 #define _DEFAULT_SOURCE
 #include "driver.h"
@@ -644,7 +643,7 @@ static bool answer_line(char *line)
     bool known;
     if (strcmp(ask, "write") == 0)
         return answer_write(line);
-    if (answer_session(ask, line) || answer_records(ask, line) || answer_config(ask, line))
+    if (answer_session(ask, line) || answer_records(ask, line))
         return true;
     name = named ? strsep(&line, " ") : "";
     in = from_hex(line != NULL ? line : "");

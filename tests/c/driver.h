@@ -44,7 +44,4 @@ struct bytes area_named(char **words);
 /* Answers a request about the records of files (driver_files.c); false where it is none. */
 bool answer_records(const char *ask, char *words);
 
-/* Answers the request about a configuration (driver_config.c); false where it is none. */
-bool answer_config(const char *ask, char *words);
-
 #endif

@@ -154,12 +154,6 @@ uint8_t sudolog_next_record(const uint8_t *area, size_t area_n, size_t used, siz
     return (uint8_t)(look(area, area_n) + 1u);
 }
 
-uint8_t sudolog_read_config(const uint8_t *text, size_t n, uint8_t *out, size_t room, uint8_t *numbers, size_t numbers_room)
-{
-    memset(numbers, 0, numbers_room);
-    return look(text, n) | look_at_room(out, room);
-}
-
 /* A call that hands over slices, all of them empty. */
 #define HANDS_OVER(CALL)                                                                                    \
     do {                                                                                                    \
@@ -274,21 +268,6 @@ static void walk_files_of_null(size_t n)
     CHECK(!sudolog_get_stored_window_size(NULL, n, time, &size));
 }
 
-/* A configuration's text and listing at NULL, and a list that holds NULL itself, at its start and behind it. */
-static void load_null(size_t n)
-{
-    struct sudolog_config config;
-    struct sudolog_setting_list holds_null = { NULL, n, 0 }, walked = { NULL, n, 4 };
-    struct sudolog_setting setting;
-    struct sudolog_span span;
-    HANDS_OVER(sudolog_load_config(NULL, n, NULL, n, &config));
-    CHECK(config.settings.m != NULL && config.settings.n == 0 && config.settings.at == 0);
-    CHECK(!sudolog_next_setting(&config.settings, &setting));
-    CHECK(!sudolog_next_setting(&holds_null, &setting) && !sudolog_next_setting(&walked, &setting));
-    CHECK(!sudolog_next_counted(&holds_null, &span) && !sudolog_next_counted(&walked, &span));
-    CHECK(!sudolog_find_setting(holds_null, "iolog", "maxseq", &setting) && !sudolog_find_setting(holds_null, NULL, NULL, &setting));
-}
-
 #ifdef OVER_THE_LIBRARY
 
 /* Every writer, with NULL for each of its slices and for its room. */
@@ -330,18 +309,6 @@ static void lend_null_as_file(size_t n)
     HANDS_OVER(sudolog_compare_files(one, sizeof one, sizeof one, other, sizeof other, sizeof other, ROOM));
     HANDS_OVER(sudolog_next_record(one, sizeof one, sizeof one, 0, ROOM));
     HANDS_OVER(sudolog_escape(KEY, ROOM));
-}
-
-/* The call for a configuration: with no text, then with one that has a setting to list, or a bad line. */
-static void lend_null_as_text(size_t n)
-{
-    static const char one[] = "[iolog]\nmaxseq = 1\n", bad[] = "[iolog]\nmaxseq = 0\n";
-    uint8_t numbers[SUDOLOG_CONFIG_SIZE];
-    HANDS_OVER(sudolog_read_config(BYTES, ROOM, ROOM));
-    HANDS_OVER(sudolog_read_config(BYTES, ROOM, numbers, sizeof numbers));
-    HANDS_OVER(sudolog_read_config(SUDOLOG_LEND_STRING(one), ROOM, ROOM));
-    HANDS_OVER(sudolog_read_config(SUDOLOG_LEND_STRING(one), ROOM, numbers, sizeof numbers));
-    HANDS_OVER(sudolog_read_config(SUDOLOG_LEND_STRING(bad), ROOM, numbers, sizeof numbers));
 }
 
 /* Messages that a session would store, over an area that could not be had: an accept with I/O, then, in logging, a ttyout. */
@@ -405,12 +372,10 @@ int main(void)
         walk_lists_of_null(lengths[i]);
         walk_null(lengths[i]);
         walk_files_of_null(lengths[i]);
-        load_null(lengths[i]);
         lend_null(lengths[i]);
         take_null(lengths[i]);
 #ifdef OVER_THE_LIBRARY
         lend_null_as_file(lengths[i]);
-        lend_null_as_text(lengths[i]);
         store_in_null(lengths[i]);
 #endif
     }

@@ -17,7 +17,7 @@ static struct {
     unsigned long inputs, calls, properties;
     unsigned long read[17], written[17], handed[17];  /* answers by refusal */
     unsigned long state[5], mark[2], member[14], file[16], ticks[2], key[4], restarts;
-    unsigned long compared[17], flags[17], stepped[17], escaped[17], configured[19];
+    unsigned long compared[17], flags[17], stepped[17], escaped[17];
 } tally;
 
 enum { SEEN = 1 << 15, BLOCKS = 1 << 13 };
@@ -121,8 +121,7 @@ static void set_traps(const char *name)
 enum fault {
     NO_FAULT, READ_PAST, READ_BEFORE, WRITE_INPUT, WRITE_PAST, WRITE_BEFORE, WRITE_SLACK, WRITE_REFUSED, OTHER_VALUE,
     OTHER_SIZE, UNSTEADY, AREA_REFUSED, OPEN_REFUSED, USED_REFUSED, OTHER_NUMBER, OTHER_RECORD, OTHER_POINT, TICK_TOTAL,
-    RESTART_REFUSED, FILE_OPEN, FRAME_EARLY, OTHER_MEMBER, LIST_STOPS, NO_ROOM_OPEN, SHORTER_DATA, RAW_DELETE, NEXT_LINE,
-    LIST_REFUSED, RETURN_DROPPED, FAULTS
+    RESTART_REFUSED, FILE_OPEN, FRAME_EARLY, OTHER_MEMBER, LIST_STOPS, NO_ROOM_OPEN, SHORTER_DATA, RAW_DELETE, FAULTS
 };
 
 static const char *const faults[FAULTS] = {
@@ -152,9 +151,6 @@ static const char *const faults[FAULTS] = {
     "no-room-open",    /* the session stays open though its answer has no room */
     "shorter-data",    /* data of two files are compared up to the shorter length alone */
     "raw-delete",      /* byte 127 is shown as it is */
-    "next-line",       /* a configuration's refusal carries the number of another line */
-    "list-refused",    /* a configuration that is refused changes a byte of the listing's room */
-    "return-dropped",  /* a carriage return at the end of a line goes */
 };
 
 static enum fault fault;

@@ -6,7 +6,6 @@
 #ifndef FILES_H
 #define FILES_H
 
-#include "config.h"
 #include "session.h"
 
 static struct {
@@ -293,16 +292,14 @@ static void check_and_compare(struct program *p)
     copy_file();
 }
 
-/* All are rare, so that the inputs of the corpus that are older than these calls keep their meaning. */
-static void rare_step(struct program *p)
+/* Both are rare, so that the inputs of the corpus that are older than the calls for files keep their meaning. */
+static void large_or_files(struct program *p)
 {
     uint8_t which = byte(p);
     if (which == 'L')
         large(p);
     else if (which >= 128 && which < 184)
         files(p);
-    else if (which >= 240)
-        read_config(p);
 }
 
 #endif

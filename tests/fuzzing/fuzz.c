@@ -3,9 +3,9 @@
  *
  * An input is a small program. Its bytes choose messages and values, damage what was written, and choose calls: reading,
  * writing, cutting frames, a host with a session and an area whose messages, lengths, session bytes and file may
- * all be wrong, that file beside an earlier copy, and texts of a configuration. Every call is made over memory between pages that
- * can't be touched (lent.h). What sessions, ticks, file checks and the calls for stored files answer is compared with model.h, all of
- * it: refusal, answer, session and every byte of the area; what is read of a configuration, with config.h.
+ * all be wrong, and that file beside an earlier copy. Every call is made over memory between pages that can't be touched
+ * (lent.h). What sessions, ticks, file checks and the calls for stored files answer is compared with model.h, all of it: refusal,
+ * answer, session and every byte of the area.
  * Of the readers and writers the header's promises are checked.
  *
  * What guides libFuzzer: the branches of this program and of the model, the answers that are handed to saw(), and the blocks
@@ -28,7 +28,7 @@ static void run_program(struct program *p)
     static void (*const steps[])(struct program *) = {
         write_message, write_message, raw_message, damage, damage, read_message, cut_frames, hand_over, hand_over,
         hand_wrongly, tick, connect, restart, fresh_area, bend, check_and_compare, send_one, send_one, send_one,
-        whole_session, rare_step
+        whole_session, large_or_files
     };
     int left = 64;
     while (p->at < p->n && left-- > 0)
@@ -78,7 +78,6 @@ static void print_tally(void)
     print_counts("sums of flags", tally.flags, 17, 0x101FF);
     print_counts("steps to a record", tally.stepped, 17, 0x9003);
     print_counts("texts' refusals", tally.escaped, 17, 0x1001);
-    print_counts("configurations' refusals", tally.configured, 19, 0x71001);
     printf("restarts taken: %lu\n", tally.restarts);
     if (blocks.n != 0)
         printf("blocks of the library's code: %zu of %zu reached\n", blocks.reached, blocks.n);

@@ -1,4 +1,4 @@
-"""The library as the test scripts reach it: tests/c/driver.c and its three other parts, built and called line by line."""
+"""The library as the test scripts reach it: tests/c/driver.c and its two other parts, built and called line by line."""
 
 import json
 import os
@@ -7,7 +7,7 @@ import sys
 
 ROOT = os.path.dirname(os.path.dirname(os.path.dirname(os.path.abspath(__file__))))
 DRIVER = os.path.join(ROOT, "target", "tests", "driver")
-SOURCES = [os.path.join(ROOT, "tests", "c", name) for name in ("driver.c", "driver_sessions.c", "driver_files.c", "driver_config.c")]
+SOURCES = [os.path.join(ROOT, "tests", "c", name) for name in ("driver.c", "driver_sessions.c", "driver_files.c")]
 HEADERS = [os.path.join(ROOT, "tests", "c", "driver.h"), os.path.join(ROOT, "include", "sudolog.h")]
 MADE = os.path.join(ROOT, "target", "staticlib", "libsudolog.a")
 
