@@ -6,6 +6,7 @@ use native.Mathlib.Omega.{arith}
 use mathlib.Core.List.{List, ◌++◌, append_assoc}
 use lib.ListN.{length, take, drop, length-append, length-drop}
 use lib.Seq.{drop-drop, take_at, drop-append-add, length-take-le, sets, sets-eq}
+use borrow.Rule.Slice.PartMut.{put_mid}
 use Rattle.base_laws.specs.Base.{splice}
 
 module _ {A : Type 0} where
@@ -18,6 +19,14 @@ module _ {A : Type 0} where
   pub sets_splice : (s : List A) (at : ℕ) (bs : List A) → at + length bs ≤ length s → sets s at bs ≡ splice s at bs
   unfolding splice
   sets_splice s at bs h = sets-eq bs s at h
+
+  -- so is a write to `s[at..at + n]`: ys is what the part holds afterwards
+  pub part_splice : (s : List A) (at n : ℕ) (ys bs : List A) → ys ≡ bs → n ≡ length bs → put_mid at n s ys ≡ splice s at bs
+  unfolding splice
+  part_splice s at n ys bs e h =
+      ap (λ (l : List A). take at s ++ (l ++ drop n (drop at s))) e
+      ∙ sym (append_assoc (take at s) bs (drop n (drop at s)))
+      ∙ ap (λ (l : List A). take at s ++ bs ++ l) (drop-drop n at s ∙ ap (λ (k : ℕ). drop (at + k) s) h)
 
   -- two adjacent splices are one
   pub splice_splice : (s : List A) (at : ℕ) (xs ys : List A) → at + length xs ≤ length s

@@ -3,8 +3,9 @@ use Prim.Native.Nat.{ℕ, suc, ◌+◌, ◌*◌, ◌/◌, ◌%◌, ◌≤◌, �
 use native.Mathlib.Omega.{arith}
 use mathlib.Core.Path.{◌≡◌, sym, ap, ◌∙◌}
 use mathlib.Core.List.{List, [], ◌∷◌, ◌++◌, append-nil}
-use lib.ListN.{length, get_or, drop}
+use lib.ListN.{length, get_or, take, drop}
 use lib.Seq.{drop-cons, drop-length}
+use Rattle.std.specs.Int.{from_be_bytes, w64}
 use Rattle.base_numbers.specs.Eight.{eight, eights, number_at}
 
 -- ---- from numbers to bytes and back
@@ -92,6 +93,11 @@ split s at h =
       next s (at + 6) (at + 7) (omega arith) (omega arith),
       next s (at + 7) (at + 8) (omega arith) (omega arith),
     )
+
+-- std's reading of eight bytes is the number that they are
+pub number_read : (s : List ℕ) (at : ℕ) → at + 8 ≤ length s → from_be_bytes w64 (take 8 (drop at s)) ≡ number_at s at
+unfolding number_at
+number_read s at h = ap (λ (l : List ℕ). from_be_bytes w64 (take 8 l)) (split s at h)
 
 -- bytes are those of the number that they are
 pub bytes_back : (s : List ℕ) (at : ℕ) → Bytes s → at + 8 ≤ length s → drop at s ≡ eight (number_at s at) ++ drop (at + 8) s

@@ -1,5 +1,5 @@
 -- Numbers as bytes in a buffer.
-use Rattle.std.specs.Prelude.{ℕ, ◌+◌, ◌*◌, ◌/◌, ◌%◌, ◌<◌, ◌≡◌, List, [], ◌∷◌, ◌++◌, length, get_or, leb}
+use Rattle.std.specs.Prelude.{ℕ, ◌+◌, ◌*◌, ◌/◌, ◌%◌, List, [], ◌∷◌, ◌++◌, length, get_or, leb}
 use Rattle.base_laws.specs.Base.{pick, splice}
 
 -- a number as eight bytes, most significant first, and numbers one after the other
@@ -22,18 +22,3 @@ number_at s at =
     get_or s at 0 * 72057594037927936 + get_or s (at + 1) 0 * 281474976710656 + get_or s (at + 2) 0 * 1099511627776
     + get_or s (at + 3) 0 * 4294967296 + get_or s (at + 4) 0 * 16777216 + get_or s (at + 5) 0 * 65536 + get_or s (at + 6) 0 * 256
     + get_or s (at + 7) 0
-
--- a number's eight bytes in the opposite order
-unfoldable pub byte_swapped : ℕ → ℕ
-byte_swapped v =
-    v % 256 * 72057594037927936 + v / 256 % 256 * 281474976710656 + v / 65536 % 256 * 1099511627776
-    + v / 16777216 % 256 * 4294967296 + v / 4294967296 % 256 * 16777216 + v / 1099511627776 % 256 * 65536
-    + v / 281474976710656 % 256 * 256 + v / 72057594037927936 % 256
-
--- the number r is four bytes from a place on, least significant first, and each is a byte
-pub record Small (s : List ℕ) (at r : ℕ) : Type 0 where
-  pub is : r ≡ get_or s at 0 + get_or s (at + 1) 0 * 256 + get_or s (at + 2) 0 * 65536 + get_or s (at + 3) 0 * 16777216
-  pub first : get_or s at 0 < 256
-  pub second : get_or s (at + 1) 0 < 256
-  pub third : get_or s (at + 2) 0 < 256
-  pub fourth : get_or s (at + 3) 0 < 256

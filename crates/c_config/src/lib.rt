@@ -1,40 +1,31 @@
 // What C is to call on a configuration. Nothing exports it to C yet: the header that declares it is on the shelf (docs/shelf).
 #![tactic(auto)]
 
-ghost use Rattle.std.specs.Prelude.{◌≡◌, ◌≤◌, length};
-ghost use Rattle.base_laws.specs.Base.{splice};
-ghost use Rattle.base_numbers.specs.Eight.{eights};
-ghost use Rattle.c_config.specs.Numbers.{flag, seven_of, answer_with, out_with, numbers_with};
+ghost use Rattle.std.specs.Prelude.{◌≡◌};
+ghost use Rattle.base_numbers.specs.Eight.{laid};
+ghost use Rattle.c_config.specs.Numbers.{seven_of, answer_with, out_with, numbers_with};
 
-use base_numbers::put;
+use base_numbers::lay;
+use conf_read::refusal::ConfigError;
 use conf_read::values::{Values, default_values};
 use conf_read::{Config, read_config};
 
-fn flag_of(b: bool) -> u64
-    ensures { result ≡ flag b }
-{
-    if b {
-        return 1;
-    }
-    0
-}
-
-// Inner: sudolog_read_config tests the room.
+// Seven numbers. Inner: sudolog_read_config tests the room, and without it nothing is laid.
 fn put_seven(out: &mut [u8], line: usize, size: usize, v: Values)
-    requires { 56 ≤ length out.old }
-    ensures { out.new ≡ splice out.old 0 (eights (seven_of line size v)) }
+    ensures { out.new ≡ laid (seven_of line size v) out.old }
 {
-    let server = v.server;
-    let relay = v.relay;
-    let server_flag = flag_of(server.keepalive);
-    let relay_flag = flag_of(relay.keepalive);
-    put(out, 0, line as u64);
-    put(out, 8, size as u64);
-    put(out, 16, server.timeout);
-    put(out, 24, server_flag);
-    put(out, 32, relay.timeout);
-    put(out, 40, relay_flag);
-    put(out, 48, v.maxseq);
+    lay(
+        out,
+        &[
+            line as u64,
+            size as u64,
+            v.server.timeout,
+            u64::from(v.server.keepalive),
+            v.relay.timeout,
+            u64::from(v.relay.keepalive),
+            v.maxseq,
+        ],
+    );
 }
 
 // Reads a configuration: lists its settings and lays seven numbers.
@@ -47,14 +38,14 @@ pub fn sudolog_read_config(text: &[u8], out: &mut [u8], numbers: &mut [u8]) -> u
         return 12;
     }
     match read_config(text, out) {
-        Config::Read { size, values } => {
-            put_seven(numbers, 0, size, values);
+        Ok(read) => {
+            put_seven(numbers, 0, read.size, read.values);
             0
         }
-        Config::Refused { refusal, line } => {
-            put_seven(numbers, line, 0, default_values());
-            refusal
+        Err(ConfigError::Refused(bad)) => {
+            put_seven(numbers, bad.line, 0, default_values());
+            u8::from(bad.refusal)
         }
-        Config::NoRoom => 12,
+        Err(ConfigError::NoRoom) => 12,
     }
 }

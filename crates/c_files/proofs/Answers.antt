@@ -12,14 +12,14 @@ use Rattle.base_laws.proofs.Parts.{length_part}
 use Rattle.base_numbers.specs.Eight.{laid}
 use Rattle.file_format.specs.File.{record_at, within_area}
 use Rattle.file_format.specs.Head.{head_of}
-use Rattle.file_format.specs.declared.head.Head.TheVariants as head
+use Rattle.file_format.specs.declared.head.Head.{Head}
 use Rattle.file_format.proofs.Areas.{within_area_lem}
 use Rattle.file_format.proofs.Heads.{head_reach}
 use Rattle.file_format.proofs.Found.{broken_head, whole_head}
-use Rattle.file_compare.specs.Compare.{compare_answer, compare_out, count_answer}
-use Rattle.file_compare.specs.declared.Compared.{Compared}
-use Rattle.file_compare.specs.declared.Counted.{Counted}
-use Rattle.c_files.specs.Files.{refused, both_within, compare_areas, compare_areas_out, compared_number, count_area, counted_number, standing_in, standing, record_answer, record_out}
+use Rattle.file_compare.specs.Compare.{compare_answer, compare_out}
+use Rattle.file_compare.specs.declared.CompareError.{CompareError}
+use Rattle.std.specs.Prelude.{Some, None, Result}
+use Rattle.c_files.specs.Files.{refused, both_within, compare_areas, compare_areas_out, compared_number, standing_in, standing, record_answer, record_out}
 
 -- the used bytes of an area are as many as are used
 pub used_bytes : (area : List ℕ) (used : ℕ) → within_area (length area) used ≡ true → used ≡ length (take used area)
@@ -36,21 +36,10 @@ module _ (a : List ℕ) (u : ℕ) (b : List ℕ) (v : ℕ) (out : List ℕ) wher
   unfolding compare_areas compare_areas_out compared_number
   out_of_bounds w = rw w (refl, refl)
 
-  pub in_bounds : both_within a u b v ≡ true → (c : Compared) (left : List ℕ) → compare_answer (take u a) (take v b) out ≡ c → left ≡ compare_out (take u a) (take v b) out
+  pub in_bounds : both_within a u b v ≡ true → (c : Result ℕ CompareError) (left : List ℕ) → compare_answer (take u a) (take v b) out ≡ c → left ≡ compare_out (take u a) (take v b) out
       → Compares (compared_number c) left
   unfolding compare_areas compare_areas_out
   in_bounds w c left e l = rw w (ap compared_number (sym e), l)
-
--- ---- one file
-
-pub count_in_bounds : (area : List ℕ) (used : ℕ) → within_area (length area) used ≡ true → (c : Counted) → count_answer (take used area) ≡ c
-    → counted_number c ≡ counted_number (count_area area used)
-unfolding count_area
-count_in_bounds area used w c e = rw w (ap counted_number (sym e))
-
-pub count_out_of_bounds : (area : List ℕ) (used : ℕ) → within_area (length area) used ≡ false → refused 15 ≡ counted_number (count_area area used)
-unfolding count_area counted_number
-count_out_of_bounds area used w = rw w refl
 
 -- ---- a record
 
@@ -62,17 +51,17 @@ module _ (s : List ℕ) (at : ℕ) (out : List ℕ) where
   unfolding standing_in record_answer record_out
   at_end e = rw e (refl, refl)
 
-  pub none_there : eqb at (length s) ≡ false → head_of (record_at s at) ≡ head.Broken → Tells 15 out
+  pub none_there : eqb at (length s) ≡ false → head_of (record_at s at) ≡ None → Tells 15 out
   unfolding standing_in record_answer record_out
   none_there e h = rw (e, broken_head s at h) (refl, refl)
 
-  pub one_there : eqb at (length s) ≡ false → (kind delay len : ℕ) → head_of (record_at s at) ≡ head.Whole kind delay len
-      → (r : ℕ) → r ≡ pick (leb 40 (length out)) 1 12 → (left : List ℕ) → left ≡ laid (kind ∷ delay ∷ (at + 11) ∷ len ∷ (at + 11 + len) ∷ []) out → Tells r left
+  pub one_there : eqb at (length s) ≡ false → (h : Head) → head_of (record_at s at) ≡ Some h
+      → (r : ℕ) → r ≡ pick (leb 40 (length out)) 1 12 → (left : List ℕ) → left ≡ laid (h.kind ∷ h.delay ∷ (at + 11) ∷ h.len ∷ (at + 11 + h.len) ∷ []) out → Tells r left
   unfolding standing_in record_answer record_out
-  one_there e kind delay len h r q left l =
-      let reach : at + 11 + len ≤ length s = head_reach s at kind delay len h in
-      let as_long : length (part s (at + 11) (at + 11 + len)) ≡ len = omega (arith, length_part s (at + 11) (at + 11 + len) (omega arith) reach) in
-      rw (e, whole_head s at kind delay len h) (q, l ∙ ap (λ (k : ℕ). laid (kind ∷ delay ∷ (at + 11) ∷ k ∷ (at + 11 + len) ∷ []) out) (sym as_long))
+  one_there e h f r q left l =
+      let reach : at + 11 + h.len ≤ length s = head_reach s at h f in
+      let as_long : length (part s (at + 11) (at + 11 + h.len)) ≡ h.len = omega (arith, length_part s (at + 11) (at + 11 + h.len) (omega arith) reach) in
+      rw (e, whole_head s at h f) (q, l ∙ ap (λ (k : ℕ). laid (h.kind ∷ h.delay ∷ (at + 11) ∷ k ∷ (at + 11 + h.len) ∷ []) out) (sym as_long))
 
 module _ (area : List ℕ) (used at : ℕ) (out : List ℕ) where
   abbrev pub TellsIn : ℕ → List ℕ → Type 0

@@ -11,13 +11,15 @@ use Rattle.base_laws.specs.Base.{pick, both, part, splice}
 use Rattle.base_numbers.specs.Eight.{eights, laid, number_at}
 use Rattle.base_numbers.proofs.Back.{first_back, second_back, third_back, fourth_back, fifth_back}
 use Rattle.wire_fields.specs.Items.{items}
-use Rattle.wire_types.specs.declared.ClientRead.TheVariants as client
+use Rattle.std.specs.Prelude.{Some, None, Ok, Err}
+use Rattle.wire_types.specs.Refusals.{number_of}
+use Rattle.wire_types.specs.declared.Refused.{Refused}
+use Rattle.wire_types.specs.declared.ClientMember.TheVariants as client
 use Rattle.wire_walk_client.specs.Client.{client_of}
 use Rattle.wire_message.specs.Message.{io_buf, client_member, server_member}
 use Rattle.wire_message.specs.Places.{time_value}
 use Rattle.wire.specs.Read.{value, client_message, server_message}
 use Rattle.wire.specs.Places.{server_of, client_value, server_value}
-use Rattle.wire.specs.declared.ServerRead.TheVariants as server
 use Rattle.wire.proofs.Members.{client_means, server_means}
 use Rattle.wire.proofs.Bounds.{ReadInBounds, read_in_bounds, ServerInBounds, server_in_bounds}
 use Rattle.wire.proofs.Promises.{ReadNumbered, message_numbered, server_numbered}
@@ -106,7 +108,7 @@ module _ (s out : List ℕ) where
   unfolding client_says
   member_says f a e h w = let q : a + (e - a) ≡ e = omega arith in rw (not_io f h (leb 6 f) (leb f 10) refl refl, q)
 
-  pub io_told : (f x y a e : ℕ) → Word f → Word a → Word (e - a) → Word x → Word y → client_of s ≡ client.Io f x y a e
+  pub io_told : (f x y a e : ℕ) → Word f → Word a → Word (e - a) → Word x → Word y → client_of s ≡ Ok (Some (client.Io f (record { delay = record { seconds = x; nanos = y }; contents = record { start = a; end = e } })))
       → (ok : Bool) → leb 40 (length out) ≡ ok → (left : List ℕ) → left ≡ laid (f ∷ a ∷ (e - a) ∷ x ∷ y ∷ []) out → ClientAnswered (pick ok 0 12) left
   unfolding client_buffer client_numbers client_value read_answer
   io_told f x y a e wf wa we wx wy h ok k left l =
@@ -116,11 +118,11 @@ module _ (s out : List ℕ) where
     where
       says : (ok : Bool) → leb 40 (length out) ≡ ok
           → client_message s ≡ value (io_buf f (record { delay = time_value (record { seconds = x; nanos = y }); contents = part s a e }))
-          → ReadInBounds s (client.Io f x y a e) → ◌≡◌ {A = ℕ} (pick ok 0 12) 0 → client_message s ≡ value (client_told s left)
+          → ReadInBounds s (Ok (Some (client.Io f (record { delay = record { seconds = x; nanos = y }; contents = record { start = a; end = e } })))) → ◌≡◌ {A = ℕ} (pick ok 0 12) 0 → client_message s ≡ value (client_told s left)
       says false k m g z = not_zero 12 (omega arith) z
       says true k m g z = m ∙ ap value (sym (ap (client_told s) l ∙ read_back f x y a e wf wa we wx wy k ∙ io_says f x y a e g.0 g.1 g.2))
 
-  pub member_told : (f a e : ℕ) → Word f → Word a → Word (e - a) → client_of s ≡ client.Member f a e
+  pub member_told : (f a e : ℕ) → Word f → Word a → Word (e - a) → client_of s ≡ Ok (Some (client.Other f (record { start = a; end = e })))
       → (ok : Bool) → leb 40 (length out) ≡ ok → (left : List ℕ) → left ≡ laid (f ∷ a ∷ (e - a) ∷ 0 ∷ 0 ∷ []) out → ClientAnswered (pick ok 0 12) left
   unfolding client_buffer client_numbers client_value read_answer
   member_told f a e wf wa we h ok k left l =
@@ -129,19 +131,19 @@ module _ (s out : List ℕ) where
       (rw (m, k), (rw h l, says ok k m g))
     where
       says : (ok : Bool) → leb 40 (length out) ≡ ok → client_message s ≡ value (client_member f (items (part s a e)))
-          → ReadInBounds s (client.Member f a e) → ◌≡◌ {A = ℕ} (pick ok 0 12) 0 → client_message s ≡ value (client_told s left)
+          → ReadInBounds s (Ok (Some (client.Other f (record { start = a; end = e })))) → ◌≡◌ {A = ℕ} (pick ok 0 12) 0 → client_message s ≡ value (client_told s left)
       says false k m g z = not_zero 12 (omega arith) z
       says true k m g z = m ∙ ap value (sym (ap (client_told s) l ∙ read_back f 0 0 a e wf wa we (omega arith) (omega arith) k ∙ member_says f a e g.1 g.2))
 
-  pub client_none : client_of s ≡ client.NoMember → ClientAnswered 6 out
+  pub client_none : client_of s ≡ Ok None → ClientAnswered 6 out
   unfolding client_buffer client_value read_answer
   client_none h = (rw (sym (client_means s) ∙ ap (client_value s) h), (rw h, not_zero 6 (omega arith)))
 
-  pub client_refused : (n p : ℕ) → client_of s ≡ client.Refused n p → ClientAnswered n out
+  pub client_refused : (r : Refused) → client_of s ≡ Err r → ClientAnswered (number_of r.refusal) out
   unfolding client_buffer client_value read_answer
-  client_refused n p h =
+  client_refused r h =
       let m = sym (client_means s) ∙ ap (client_value s) h in
-      (rw m, (rw h, not_zero n (subst ReadNumbered m (message_numbered s)).0))
+      (rw m, (rw h, not_zero (number_of r.refusal) (subst ReadNumbered m (message_numbered s)).0))
 
   -- ---- of a ServerMessage
 
@@ -156,7 +158,7 @@ module _ (s out : List ℕ) where
       let q : a + (e - a) ≡ e = omega arith in
       rw (three_at_0 f a (e - a) out room wf, three_at_8 f a (e - a) out room wa, three_at_16 f a (e - a) out room we, q)
 
-  pub server_told_lem : (f a e : ℕ) → Word f → Word a → Word (e - a) → server_of s ≡ server.Member f a e
+  pub server_told_lem : (f a e : ℕ) → Word f → Word a → Word (e - a) → server_of s ≡ Ok (Some (record { member = f; bytes = record { start = a; end = e } }))
       → (ok : Bool) → leb 24 (length out) ≡ ok → (left : List ℕ) → left ≡ laid (f ∷ a ∷ (e - a) ∷ []) out → ServerAnswered (pick ok 0 12) left
   unfolding server_buffer server_value read_answer
   server_told_lem f a e wf wa we h ok k left l =
@@ -165,16 +167,16 @@ module _ (s out : List ℕ) where
       (rw (m, k), (rw h l, says ok k m g))
     where
       says : (ok : Bool) → leb 24 (length out) ≡ ok → server_message s ≡ value (server_member f (part s a e))
-          → ServerInBounds s (server.Member f a e) → ◌≡◌ {A = ℕ} (pick ok 0 12) 0 → server_message s ≡ value (server_told s left)
+          → ServerInBounds s (Ok (Some (record { member = f; bytes = record { start = a; end = e } }))) → ◌≡◌ {A = ℕ} (pick ok 0 12) 0 → server_message s ≡ value (server_told s left)
       says false k m g z = not_zero 12 (omega arith) z
       says true k m g z = m ∙ ap value (sym (ap (server_told s) l ∙ server_back f a e wf wa we g.0 k))
 
-  pub server_none : server_of s ≡ server.NoMember → ServerAnswered 6 out
+  pub server_none : server_of s ≡ Ok None → ServerAnswered 6 out
   unfolding server_buffer server_value read_answer
   server_none h = (rw (sym (server_means s) ∙ ap (server_value s) h), (rw h, not_zero 6 (omega arith)))
 
-  pub server_refused : (n p : ℕ) → server_of s ≡ server.Refused n p → ServerAnswered n out
+  pub server_refused : (r : Refused) → server_of s ≡ Err r → ServerAnswered (number_of r.refusal) out
   unfolding server_buffer server_value read_answer
-  server_refused n p h =
+  server_refused r h =
       let m = sym (server_means s) ∙ ap (server_value s) h in
-      (rw m, (rw h, not_zero n (subst ReadNumbered m (server_numbered s)).0))
+      (rw m, (rw h, not_zero (number_of r.refusal) (subst ReadNumbered m (server_numbered s)).0))

@@ -1,17 +1,17 @@
 -- What the functions for C return: the paper's numbers for each case, and numbers as bytes.
-use Rattle.std.specs.Prelude.{ℕ, ◌+◌, ◌-◌, List, [], ◌∷◌, leb, eqb}
+use Rattle.std.specs.Prelude.{ℕ, ◌+◌, ◌-◌, List, [], ◌∷◌, Option, Some, None, Result, Ok, Err, leb, eqb}
 use Rattle.base_laws.specs.Base.{pick, both, part}
 use Rattle.wire_schema.specs.Schema.{ClientMessage, InfoMessage, ServerMessage}
 use Rattle.wire_fields.specs.Fields.{last_in, member_from}
 use Rattle.wire_fields.specs.Items.{items}
 use Rattle.base_numbers.specs.Eight.{laid, number_at}
-use Rattle.wire_types.specs.declared.ClientRead.{ClientRead}
-use Rattle.wire_types.specs.declared.ClientRead.TheVariants as client
+use Rattle.wire_types.specs.declared.Refused.{Refused}
+use Rattle.wire_types.specs.declared.ClientMember.{ClientMember}
+use Rattle.wire_types.specs.declared.ClientMember.TheVariants as client
 use Rattle.wire_message.specs.Message.{Client, Server, io_buf, client_member, server_member}
 use Rattle.wire_message.specs.Places.{time_value}
 use Rattle.wire.specs.Read.{Reading, value, refused}
-use Rattle.wire.specs.declared.ServerRead.{ServerRead}
-use Rattle.wire.specs.declared.ServerRead.TheVariants as server
+use Rattle.wire.specs.declared.ServerMember.{ServerMember}
 
 -- the member of a message that has a oneof: its fields 1 to 13, 1 to 5 or 2 to 5
 unfoldable pub member_of : ℕ → List ℕ → ℕ
@@ -28,24 +28,22 @@ read_answer (value a) size room = pick (leb size room) 0 12
 read_answer (refused n) size room = n
 
 -- the member, the place of its bytes (of an I/O buffer, of its data) and an I/O buffer's delay
-unfoldable pub client_numbers : ClientRead → List ℕ
-client_numbers (client.Io f x y a e) = f ∷ a ∷ (e - a) ∷ x ∷ y ∷ []
-client_numbers (client.Member f a e) = f ∷ a ∷ (e - a) ∷ 0 ∷ 0 ∷ []
-client_numbers client.NoMember = []
-client_numbers (client.Refused n p) = []
+unfoldable pub client_numbers : ClientMember → List ℕ
+client_numbers (client.Io f io) =
+    f ∷ io.contents.start ∷ (io.contents.end - io.contents.start) ∷ io.delay.seconds ∷ io.delay.nanos ∷ []
+client_numbers (client.Other f p) = f ∷ p.start ∷ (p.end - p.start) ∷ 0 ∷ 0 ∷ []
 
--- the buffer afterwards: a refused message leaves it as it was
-unfoldable pub client_buffer : ClientRead → List ℕ → List ℕ
-client_buffer (client.Io f x y a e) out = laid (client_numbers (client.Io f x y a e)) out
-client_buffer (client.Member f a e) out = laid (client_numbers (client.Member f a e)) out
-client_buffer client.NoMember out = out
-client_buffer (client.Refused n p) out = out
+-- the buffer afterwards: a refused message, or one with no member, leaves it as it was
+unfoldable pub client_buffer : Result (Option ClientMember) Refused → List ℕ → List ℕ
+client_buffer (Ok (Some c)) out = laid (client_numbers c) out
+client_buffer (Ok None) out = out
+client_buffer (Err r) out = out
 
 -- the member and the place of its bytes
-unfoldable pub server_buffer : ServerRead → List ℕ → List ℕ
-server_buffer (server.Member f a e) out = laid (f ∷ a ∷ (e - a) ∷ []) out
-server_buffer server.NoMember out = out
-server_buffer (server.Refused n p) out = out
+unfoldable pub server_buffer : Result (Option ServerMember) Refused → List ℕ → List ℕ
+server_buffer (Ok (Some m)) out = laid (m.member ∷ m.bytes.start ∷ (m.bytes.end - m.bytes.start) ∷ []) out
+server_buffer (Ok None) out = out
+server_buffer (Err r) out = out
 
 -- ---- what the numbers say of the message s that they were answered for
 

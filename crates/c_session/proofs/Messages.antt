@@ -6,6 +6,7 @@ use lib.ListN.{length}
 use borrow.Author.Tests.{le-leb, lt-leb}
 use Rattle.wire_message.specs.Message.{Bytes}
 use Rattle.base_numbers.specs.Eight.{laid}
+use Rattle.session.specs.Refusals.{number, key, point}
 use Rattle.session.specs.Step.{Outcome, outcome, in_state, refuse, step}
 use Rattle.session_turn.specs.declared.State.TheVariants.{Closed}
 use Rattle.session.specs.declared.Session.{Session}
@@ -41,20 +42,21 @@ module _ (slice message area : Bytes) (used : ℕ) (out : Bytes) where
     unfolding stepped
     is h = gives ∙ ap (λ (x : Session). step x area used message) loaded ∙ rw (le-leb 40 (length out) h)
 
-    pub answered : 40 ≤ length out → (p q n : ℕ) → slice' ≡ kept a.session slice
-        → p ≡ has_point a.point → q ≡ point_number a.point → n ≡ state_number a.session.state
-        → out' ≡ laid (a.used ∷ a.key ∷ p ∷ q ∷ n ∷ []) out → Answered a.refusal slice' area' out'
+    pub answered : 40 ≤ length out → (r n1 p q n : ℕ) → r ≡ number a.result → slice' ≡ kept a.session slice → n1 ≡ key a.result
+        → p ≡ has_point (point a.result) → q ≡ point_number (point a.result) → n ≡ state_number a.session.state
+        → out' ≡ laid (a.used ∷ n1 ∷ p ∷ q ∷ n ∷ []) out → Answered r slice' area' out'
     unfolding message_answer message_slice message_area message_out answer_numbers
-    answered h p q n saved has point state laying = (
-      ap (λ (o : Outcome). o.refusal) (is h),
+    answered h r n1 p q n told saved named has place state laying = (
+      told ∙ ap (λ (o : Outcome). o.refusal) (is h),
       (
         saved ∙ ap (λ (o : Outcome). kept o.session slice) (is h),
         (
           ap (λ (o : Outcome). o.area) (is h),
           laying
-              ∙ ap (λ (x : ℕ). laid (a.used ∷ a.key ∷ x ∷ q ∷ n ∷ []) out) has
-              ∙ ap (λ (x : ℕ). laid (a.used ∷ a.key ∷ has_point a.point ∷ x ∷ n ∷ []) out) point
-              ∙ ap (λ (x : ℕ). laid (a.used ∷ a.key ∷ has_point a.point ∷ point_number a.point ∷ x ∷ []) out) state
+              ∙ ap (λ (x : ℕ). laid (a.used ∷ x ∷ p ∷ q ∷ n ∷ []) out) named
+              ∙ ap (λ (x : ℕ). laid (a.used ∷ key a.result ∷ x ∷ q ∷ n ∷ []) out) has
+              ∙ ap (λ (x : ℕ). laid (a.used ∷ key a.result ∷ has_point (point a.result) ∷ x ∷ n ∷ []) out) place
+              ∙ ap (λ (x : ℕ). laid (a.used ∷ key a.result ∷ has_point (point a.result) ∷ point_number (point a.result) ∷ x ∷ []) out) state
               ∙ ap (λ (o : Outcome). laid (answer_numbers o) out) (is h),
         ),
       ),

@@ -1,22 +1,22 @@
 -- What the session's functions for C return.
-use Rattle.std.specs.Prelude.{ℕ, List, [], ◌∷◌, length, leb}
+use Rattle.std.specs.Prelude.{ℕ, List, [], ◌∷◌, length, leb, Option, Some, None, Result, Ok, Err}
 use Rattle.base_laws.specs.Base.{pick}
 use Rattle.wire_message.specs.Message.{Bytes}
 use Rattle.base_numbers.specs.Eight.{laid}
 use Rattle.session.specs.Step.{Outcome, refuse, step}
-use Rattle.session.specs.declared.Point.{Point}
-use Rattle.session.specs.declared.Point.TheVariants as point
+use Rattle.session.specs.Refusals.{number_of}
+use Rattle.session.specs.declared.Refusal.{Refusal}
 use Rattle.session.specs.declared.FileCheck.{FileCheck}
 use Rattle.session.specs.declared.FileCheck.TheVariants as check
 use Rattle.session_bytes.specs.Saved.{state_number, session_of, kept}
 
-unfoldable pub has_point : Point → ℕ
-has_point point.Absent = 0
-has_point (point.At t) = 1
+unfoldable pub has_point : Option ℕ → ℕ
+has_point None = 0
+has_point (Some t) = 1
 
-unfoldable pub point_number : Point → ℕ
-point_number point.Absent = 0
-point_number (point.At t) = t
+unfoldable pub point_number : Option ℕ → ℕ
+point_number None = 0
+point_number (Some t) = t
 
 -- a message's answer beside its refusal: the used length, the key that refusal 8 names, whether there is a point, the point in
 -- nanoseconds, and the state that the session is in
@@ -42,12 +42,12 @@ module _ (slice message area : Bytes) (used : ℕ) (out : Bytes) where
   message_out = laid (answer_numbers stepped) out
 
 -- a tick's point in nanoseconds; the greatest number of 64 bits for none, which no point is
-unfoldable pub tick_number : Point → ℕ
-tick_number point.Absent = 18446744073709551615
-tick_number (point.At t) = t
+unfoldable pub tick_number : Option ℕ → ℕ
+tick_number None = 18446744073709551615
+tick_number (Some t) = t
 
 -- what the used bytes of an area are as a file: 0 unfinished, 1 finished, or 15
-unfoldable pub file_number : FileCheck → ℕ
-file_number check.Unfinished = 0
-file_number check.Finished = 1
-file_number (check.Refused n) = n
+unfoldable pub file_number : Result FileCheck Refusal → ℕ
+file_number (Ok check.Unfinished) = 0
+file_number (Ok check.Finished) = 1
+file_number (Err r) = number_of r

@@ -8,8 +8,8 @@ ghost use Rattle.session.specs.Step as st;
 ghost use Rattle.session_bytes.specs.Saved.{session_of, kept};
 ghost use Rattle.c_session.specs.Session.{has_point, point_number, message_answer, message_slice, message_area, message_out, tick_number, file_number};
 
-use base_numbers::lay_five;
-use session::{FileCheck, Point, open, refuse, tick};
+use base_numbers::lay;
+use session::{FileCheck, Refusal, open, refuse, tick};
 use session_bytes::{load, save, state_number};
 use session_step::{check_file, message};
 
@@ -24,22 +24,18 @@ pub fn sudolog_session_open(slice: &mut [u8]) -> u8
     12
 }
 
-fn has_point(p: Point) -> u64
+#[tactic(auto, unfolding(crate::specs::Session::has_point))]
+fn has_point(p: Option<u64>) -> u64
     ensures { result ≡ has_point p }
 {
-    match p {
-        Point::Absent => 0,
-        Point::At(_) => 1,
-    }
+    u64::from(p.is_some())
 }
 
-fn point_number(p: Point) -> u64
+#[tactic(auto, unfolding(crate::specs::Session::point_number))]
+fn point_number(p: Option<u64>) -> u64
     ensures { result ≡ point_number p }
 {
-    match p {
-        Point::Absent => 0,
-        Point::At(t) => t,
-    }
+    p.unwrap_or(0)
 }
 
 // One message in the session that the slice keeps.
@@ -57,42 +53,41 @@ pub fn sudolog_session_message(
 {
     let se = load(slice);
     if out.len() < 40 {
-        save(slice, refuse(se, used, 12, 0).session);
+        save(slice, refuse(se, used, Refusal::Room).session);
         return 12;
     }
     let a = message(se, s, area, used);
-    let session = a.session;
-    let point = a.point;
-    let state = session.state;
-    save(slice, session);
-    lay_five(
+    let point = a.point();
+    save(slice, a.session);
+    lay(
         out,
-        a.used as u64,
-        a.key as u64,
-        has_point(point),
-        point_number(point),
-        state_number(state),
+        &[
+            a.used as u64,
+            u64::from(a.key()),
+            has_point(point),
+            point_number(point),
+            state_number(a.session.state),
+        ],
     );
-    a.refusal
+    a.refusal()
 }
 
 // The commit point of a tick in nanoseconds.
+#[tactic(auto, unfolding(crate::specs::Session::tick_number))]
 pub fn sudolog_session_tick(slice: &[u8]) -> u64
     ensures { result ≡ tick_number (st.tick (session_of slice.now)) }
 {
-    match tick(load(slice)) {
-        Point::Absent => 18446744073709551615,
-        Point::At(t) => t,
-    }
+    tick(load(slice)).unwrap_or(u64::MAX)
 }
 
 // What the used bytes of an area are as a file.
+#[tactic(auto, unfolding(crate::specs::Session::file_number))]
 pub fn sudolog_check_file(area: &[u8], used: usize) -> u8
     ensures { result ≡ file_number (st.file_check area.now used) }
 {
     match check_file(area, used) {
-        FileCheck::Unfinished => 0,
-        FileCheck::Finished => 1,
-        FileCheck::Refused(n) => n,
+        Ok(FileCheck::Unfinished) => 0,
+        Ok(FileCheck::Finished) => 1,
+        Err(refusal) => u8::from(refusal),
     }
 }

@@ -7,9 +7,9 @@ ghost use Rattle.wire_fields.specs.Fields.{fields_at, number_in, span_in, first_
 ghost use Rattle.wire_elements.specs.Elements.{next_number};
 ghost use Rattle.c_values.specs.Answers.{version, offset_of, found_length, next_answer, next_buffer};
 
-use base_numbers::lay_three;
-use wire_elements::{Next, next_number};
-use wire_fields::{Found, between, next_part, number_in, part_in};
+use base_numbers::lay;
+use wire_elements::next_number;
+use wire_fields::{between, next_part, number_in, part_in};
 
 // The interface's number: it changes whenever a call does. `SUDOLOG_VERSION` of include/sudolog.h is the same.
 const VERSION: u64 = 1;
@@ -43,42 +43,35 @@ pub extern "C" fn sudolog_length(field: u64, s: &[u8]) -> u64
     between(p.start, p.end)
 }
 
+#[tactic(auto, unfolding(crate::specs::Answers::offset_of))]
 #[unsafe(no_mangle)]
 pub extern "C" fn sudolog_next_offset(field: u64, s: &[u8], at: usize) -> u64
     ensures { result ≡ offset_of (first_of field (fields_at s.now at)) }
 {
-    match next_part(s, at, field) {
-        Found::Part { start, end: _ } => start as u64,
-        Found::Nothing => 18446744073709551615,
-    }
+    next_part(s, at, field).map_or(u64::MAX, |p| p.start as u64)
 }
 
+#[tactic(auto, unfolding(crate::specs::Answers::found_length))]
 #[unsafe(no_mangle)]
 pub extern "C" fn sudolog_next_length(field: u64, s: &[u8], at: usize) -> u64
     ensures { result ≡ found_length (first_of field (fields_at s.now at)) }
 {
-    match next_part(s, at, field) {
-        Found::Part { start, end } => between(start, end),
-        Found::Nothing => 0,
-    }
+    next_part(s, at, field).map_or(0, |p| between(p.start, p.end))
 }
 
+#[tactic(auto, unfolding(crate::specs::Answers::next_answer, crate::specs::Answers::next_buffer))]
 #[unsafe(no_mangle)]
 pub extern "C" fn sudolog_next_number(s: &[u8], at: usize, end: usize, out: &mut [u8]) -> u8
     ensures answer { result ≡ next_answer (next_number s.now at end) (length out.old) }
     ensures buffer { out.new ≡ next_buffer (next_number s.now at end) out.old }
 {
-    match next_number(s, at, end) {
-        Next::Value {
-            value,
-            at: next,
-            end: stop,
-        } => {
-            if lay_three(out, value, next as u64, stop as u64) {
-                return 1;
-            }
-            12
-        }
-        Next::Nothing => 0,
+    let Some(next) = next_number(s, at, end) else {
+        return 0;
+    };
+    // the numbers of include/sudolog.h: C gets no Option and no Result
+    if lay(out, &[next.value, next.at as u64, next.end as u64]) {
+        1
+    } else {
+        12
     }
 }

@@ -1,5 +1,5 @@
 // The writers for C. Each returns one number: how many bytes it wrote in the low 32 bits, its refusal above them.
-#![tactic(auto)]
+#![tactic(auto, unfolding(wire_message::specs::Signed::bool))]
 
 ghost use Rattle.std.specs.Prelude.{◌≡◌, true, [], ◌∷◌, length};
 ghost use Rattle.wire_message.specs.Signed.{bool};
@@ -12,13 +12,17 @@ ghost use Rattle.write_forms.specs.Outcome.{buffer};
 ghost use Rattle.write_forms.specs.Pieces.{bytes, encode_all};
 ghost use Rattle.write_forms.specs.Run.{run_refusal};
 
-use write_message::outcome::Wrote;
+use write_message::outcome::WriteError;
 
 // A writer's answer as one number.
-fn answer(w: Wrote) -> u64
+#[tactic(auto, unfolding(crate::specs::Answer::as_number))]
+fn answer(w: Result<usize, WriteError>) -> u64
     ensures { result ≡ as_number w }
 {
-    (w.refusal as u64) * 4294967296 + (w.size % 4294967296) as u64
+    match w {
+        Ok(size) => (size % 4294967296) as u64,
+        Err(error) => u64::from(u8::from(error)) * 4294967296,
+    }
 }
 
 #[unsafe(no_mangle)]

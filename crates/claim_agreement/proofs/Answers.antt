@@ -1,5 +1,6 @@
 -- What every answer of a session's step is: taken, with a point of an exit in logging alone; or one of document 01's refusals, which
 -- closes the session and leaves area and used length as they were.
+use Rattle.std.specs.Prelude.{Option, Some, None}
 use Prim.Native.Nat.{ℕ}
 use native.Mathlib.Omega.{arith}
 use mathlib.Core.Path.{◌≡◌, refl, sym, ap, ◌∙◌}
@@ -18,32 +19,28 @@ use Rattle.session_entries.specs.Required.{entries_refusal}
 use Rattle.file_format.specs.Record.{Record}
 use Rattle.file_format.specs.File.{Records, all, none, records_of, FileKind, invalid, unfinished, finished, records_kind, meets, within_area}
 use Rattle.session_turn.specs.Turn.{turn}
-use Rattle.session_turn.specs.declared.Turn.{Turn}
-use Rattle.session_turn.specs.declared.Turn.TheVariants.{To, NotNow}
 use Rattle.session.specs.Step.{Outcome, moment, lengths_fit, growth_refusal, refuse, room_for, timed, entries_first, accept_stored, on_accept, on_reject, exit_stored, on_exit, resumed, by_kind, of_records, on_restart, act, in_turn, on_reading, step, logging_point, point_in, tick}
 use Rattle.session_turn.specs.declared.State.{State}
 use Rattle.session_turn.specs.declared.State.TheVariants.{New, Greeted, Logging, EventsOnly, Closed}
 use Rattle.session.specs.declared.Session.{Session}
-use Rattle.session.specs.declared.Point.{Point}
-use Rattle.session.specs.declared.Point.TheVariants as point
 use Rattle.claim_agreement.specs.Refusals.{NumberedRefusal, Refused, Refusals}
 use Rattle.claim_agreement.specs.NoPoint.{ExitInLogging, NoPoint}
 use Rattle.wire.proofs.Promises.{ReadNumbered, message_numbered}
 use Rattle.claim_agreement.proofs.Numbers.{ZeroOrNumbered, growth_numbered, entries_numbered, read_numbered}
 
-pub never_at : (t : ℕ) → point.Absent ≡ point.At t → ⊥
+pub never_at : (t : ℕ) → None ≡ Some t → ⊥
 never_at t e = let z : ◌≡◌ {A = ℕ} 0 1 = cc in omega arith
 
 -- Exits: this message is an exit in logging
 module _ (se : Session) (area : Bytes) (used : ℕ) (Exits : Type 0) where
   abbrev Taken : Outcome → Type 0
-  Taken o = (o.refusal ≡ 0) × ((t : ℕ) → o.point ≡ point.At t → Exits)
+  Taken o = (o.refusal ≡ 0) × ((t : ℕ) → o.point ≡ Some t → Exits)
 
   abbrev Answered : Outcome → Type 0
   Answered o = Taken o ⊎ Refused area used o
 
   -- taken, with no point
-  quiet : (o : Outcome) → o.refusal ≡ 0 → o.point ≡ point.Absent → Answered o
+  quiet : (o : Outcome) → o.refusal ≡ 0 → o.point ≡ None → Answered o
   quiet o z e = inl (z, λ t p. absurd (never_at t (sym e ∙ p)))
 
   refuses : (n k : ℕ) → NumberedRefusal n → Answered (refuse se area used n k)
@@ -141,10 +138,10 @@ module _ (se : Session) (area : Bytes) (used : ℕ) (Exits : Type 0) where
   of_act st d (suspend_event s) x = of_timed (suspend_fits s) _
   of_act st d (hello_msg h) x = quiet _ refl refl
 
-  of_turn : (u : Turn) (d : Bytes) (c : Client) → ((e : Exit) → c ≡ exit_msg e → se.state ≡ Logging → Exits) → Answered (in_turn se area used u d c)
+  of_turn : (u : Option State) (d : Bytes) (c : Client) → ((e : Exit) → c ≡ exit_msg e → se.state ≡ Logging → Exits) → Answered (in_turn se area used u d c)
   unfolding in_turn
-  of_turn (To st) d c x = of_act st d c x
-  of_turn NotNow d c x = refuses 9 0 refl
+  of_turn (Some st) d c x = of_act st d c x
+  of_turn None d c x = refuses 9 0 refl
 
   of_reading : (d : Bytes) (r : Reading Client) → ReadNumbered r → ((e : Exit) → r ≡ value (exit_msg e) → se.state ≡ Logging → Exits)
       → Answered (on_reading se area used d r)
@@ -171,7 +168,7 @@ refusals se area used s = go (answers se area used s)
     go (inl h) = inl h.0
     go (inr r) = inr r
 
-none_elsewhere : (st : State) (p : Point) → (st ≡ Logging → ⊥) → point_in st p ≡ point.Absent
+none_elsewhere : (st : State) (p : Option ℕ) → (st ≡ Logging → ⊥) → point_in st p ≡ None
 unfolding point_in
 none_elsewhere New p h = refl
 none_elsewhere Greeted p h = refl
@@ -186,7 +183,7 @@ no_point = record {
   messages = λ se area used s t e. go se area used s t e (answers se area used s);
 }
   where
-    go : (se : Session) (area : Bytes) (used : ℕ) (s : Bytes) (t : ℕ) → (step se area used s).point ≡ point.At t
+    go : (se : Session) (area : Bytes) (used : ℕ) (s : Bytes) (t : ℕ) → (step se area used s).point ≡ Some t
         → Answered se area used (ExitInLogging se s) (step se area used s) → ExitInLogging se s
     go se area used s t e (inl h) = h.1 t e
     go se area used s t e (inr r) = absurd (never_at t (sym r.no_point ∙ e))

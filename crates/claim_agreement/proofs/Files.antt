@@ -1,12 +1,12 @@
 -- What a session that stores leaves is a file, with which it agrees: after an accept, after a timed record, after a restart. After an exit
 -- the area holds a file too.
+use Rattle.std.specs.Prelude.{Option, None, Some}
 use Prim.Native.Nat.{ℕ, ◌+◌, ◌≤◌}
 use native.Mathlib.Omega.{arith}
 use mathlib.Core.Path.{◌≡◌, refl, sym, ap, subst, ◌∙◌}
 use mathlib.Core.Logic.{◌⊎◌, inl, inr}
 use mathlib.Core.Bool.{Bool, true, false}
 use mathlib.Core.List.{List, [], ◌∷◌}
-use mathlib.Core.Option.{Option, none, some}
 use lib.ListN.{length, take, length-append}
 use lib.Seq.{length-take-le}
 use lib.Dec.{eqb}
@@ -25,13 +25,10 @@ use Rattle.file_format.proofs.Reading.{InRange, Ranged, no_records, one_more, re
 use Rattle.file_format.proofs.Appends.{snoc, file_snoc, file_stored, kind_timed, kind_exit, total_timed, low_timed}
 use Rattle.file_format.proofs.Restarts.{keep_ranged, keep_kind, keep_total, keep_area}
 use Rattle.session.specs.Step.{accept_record, exit_record, from_accept, from_restart, grown, carrying}
-use Rattle.session.specs.declared.Mark.{Mark}
 use Rattle.session.specs.declared.Session.{Session}
-use Rattle.session.specs.declared.Mark.TheVariants as mark
-use Rattle.session.specs.declared.Point.TheVariants as point
 use Rattle.claim_values.proofs.Stored.{exit_ranged, may_end_lem}
 use Rattle.claim_agreement.specs.Calls.{Host, until_positive, left}
-use Rattle.claim_agreement.specs.Agreement.{HoldsFile, AreaHolds, some_bytes, a_file, mark_of, Agrees}
+use Rattle.claim_agreement.specs.Agreement.{HoldsFile, AreaHolds, some_bytes, a_file, Agrees}
 
 -- ---- ranges, as a test and as facts
 
@@ -113,27 +110,26 @@ still_agrees h se area T used total low mark same point a = record {
     carries_used = used ∙ a.carries.carries_used;
     carries_total = total ∙ a.carries.carries_total;
     carries_low = low ∙ a.carries.carries_low;
-    carries_point = mark ∙ a.carries.carries_point ∙ ap mark_of (sym point);
+    carries_point = mark ∙ a.carries.carries_point ∙ sym point;
     at_point = rw point a.carries.at_point;
   };
 }
 
 -- ---- restart points
 
-not_none : (t : ℕ) → none ≡ some t → ⊥
+not_none : (t : ℕ) → None ≡ Some t → ⊥
 not_none t e = let z : ◌≡◌ {A = ℕ} 0 1 = cc in omega arith
 
-mark_later : (b : Bool) (m : Mark) (T : Option ℕ) → m ≡ mark_of T → pick b m mark.Nothing ≡ mark_of (pick b T none)
-unfolding mark_of
+mark_later : (b : Bool) (m : Option ℕ) (T : Option ℕ) → m ≡ T → pick b m None ≡ pick b T None
 mark_later true m T e = e
 mark_later false m T e = refl
 
 -- ---- after an accept
 
 -- an accept's record, stored in an area of which nothing was used
-pub accept_agrees : (area d : Bytes) (used : ℕ) (T : Option ℕ) → used ≡ 0 → T ≡ none → length d ≤ 2097152
-    → Agrees (left (carrying point.Absent (from_accept (used + length (record_bytes (accept_record d)))) (splice area used (record_bytes (accept_record d)))) T)
-unfolding file_bytes total low_from time_of is_timed rest_kind mark_of
+pub accept_agrees : (area d : Bytes) (used : ℕ) (T : Option ℕ) → used ≡ 0 → T ≡ None → length d ≤ 2097152
+    → Agrees (left (carrying None (from_accept (used + length (record_bytes (accept_record d)))) (splice area used (record_bytes (accept_record d)))) T)
+unfolding file_bytes total low_from time_of is_timed rest_kind
 accept_agrees area d used T u e small =
     let r : Record = accept_record d in
     record {
@@ -149,7 +145,7 @@ accept_agrees area d used T u e small =
         carries_used = refl;
         carries_total = refl;
         carries_low = refl;
-        carries_point = sym (ap mark_of e);
+        carries_point = sym e;
         at_point = λ t p. absurd (not_none t (sym e ∙ p));
       };
     }
@@ -180,12 +176,12 @@ module _ (h : Host) (a : Agrees h) (r : Record) (in-it : InRange r)
   abbrev rs : List Record
   rs = a.holds.records
 
-  at_point_later : (b : Bool) → eqb r.delay 0 ≡ b → (t : ℕ) → pick b h.restart_point none ≡ some t → total (snoc rs r) ≡ t
+  at_point_later : (b : Bool) → eqb r.delay 0 ≡ b → (t : ℕ) → pick b h.restart_point None ≡ Some t → total (snoc rs r) ≡ t
   at_point_later true e t p = omega (arith, total_timed rs r follows, a.carries.at_point t p, eqb-true r.delay 0 e)
   at_point_later false e t p = absurd (not_none t p)
 
   pub stored_agrees : h.used ≤ length h.area
-      → Agrees (left (carrying point.Absent (grown h.session (h.used + length (record_bytes r)) r.delay) (splice h.area h.used (record_bytes r)))
+      → Agrees (left (carrying None (grown h.session (h.used + length (record_bytes r)) r.delay) (splice h.area h.used (record_bytes r)))
       (until_positive r.delay h.restart_point))
   unfolding until_positive
   stored_agrees within =
@@ -215,8 +211,7 @@ exited_holds h a e within f small =
 
 module _ (area : Bytes) (used : ℕ) (within : used ≤ length area) (t : ℕ) (rs : List Record) (in-it : Ranged rs) (bytes : file_bytes rs ≡ take used area) where
   pub restart_agrees : records_kind rs ≡ unfinished → meets t 0 rs ≡ true
-      → Agrees (left (carrying point.Absent (from_restart t (length (file_bytes (keep t 0 rs))) (low_total (keep t 0 rs))) area) (some t))
-  unfolding mark_of
+      → Agrees (left (carrying None (from_restart t (length (file_bytes (keep t 0 rs))) (low_total (keep t 0 rs))) area) (Some t))
   restart_agrees e m =
       let size : length (file_bytes rs) ≡ used = ap length bytes ∙ length-take-le used area within in
       record {
@@ -237,5 +232,5 @@ module _ (area : Bytes) (used : ℕ) (within : used ≤ length area) (t : ℕ) (
         };
       }
     where
-      some_same : (x y : ℕ) → some x ≡ some y → x ≡ y
+      some_same : (x y : ℕ) → Some x ≡ Some y → x ≡ y
       some_same x y p = cc

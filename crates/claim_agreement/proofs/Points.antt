@@ -1,9 +1,9 @@
 -- The commit points of a session that agrees with its file: a tick's and an exit's.
+use Rattle.std.specs.Prelude.{Option, Some, None}
 use Prim.Native.Nat.{ℕ, ◌<◌}
 use native.Mathlib.Omega.{arith}
 use mathlib.Core.Path.{◌≡◌, ap, ◌∙◌}
 use mathlib.Core.List.{List}
-use mathlib.Core.Option.{Option, none, some}
 use lib.ListN.{length}
 use lib.Dec.{leb}
 use borrow.Author.Tests.{eq-eqb, ne_eqb}
@@ -20,11 +20,9 @@ use Rattle.session_turn.specs.Turn.{ending, turn}
 use Rattle.session.specs.Step.{Outcome, exit_record, record_for, lengths_fit, room_for, exit_stored, on_exit, act, in_turn, on_reading, step, logging_point, point_in, tick}
 use Rattle.session_turn.specs.declared.State.{State}
 use Rattle.session_turn.specs.declared.State.TheVariants.{Logging}
-use Rattle.session.specs.declared.Mark.{Mark}
-use Rattle.session.specs.declared.Point.TheVariants as point
 use Rattle.claim_values.proofs.Stored.{may_end_lem}
 use Rattle.claim_agreement.specs.Calls.{Host, answered}
-use Rattle.claim_agreement.specs.Agreement.{mark_of, Agrees, GreatestBelow, TickPoint, Exited}
+use Rattle.claim_agreement.specs.Agreement.{Agrees, GreatestBelow, TickPoint, Exited}
 
 -- ---- the greatest lower total
 
@@ -47,20 +45,20 @@ module _ (h : Host) (logs : h.session.state ≡ Logging) (a : Agrees h) where
   -- ---- a tick
 
   -- by the file's numbers
-  tick_is : (T : Option ℕ) → h.restart_point ≡ T → tick h.session ≡ logging_point (mark_of T) (total rs) (low_total rs)
+  tick_is : (T : Option ℕ) → h.restart_point ≡ T → tick h.session ≡ logging_point T (total rs) (low_total rs)
   unfolding tick point_in
   tick_is T e =
       ap (λ (st : State). point_in st (logging_point h.session.mark h.session.total h.session.low)) logs
-      ∙ ap (λ (m : Mark). logging_point m h.session.total h.session.low) (a.carries.carries_point ∙ ap mark_of e)
-      ∙ ap (λ (n : ℕ). logging_point (mark_of T) n h.session.low) a.carries.carries_total
-      ∙ ap (logging_point (mark_of T) (total rs)) a.carries.carries_low
+      ∙ ap (λ (m : Option ℕ). logging_point m h.session.total h.session.low) (a.carries.carries_point ∙ e)
+      ∙ ap (λ (n : ℕ). logging_point T n h.session.low) a.carries.carries_total
+      ∙ ap (logging_point T (total rs)) a.carries.carries_low
 
   pub tick_point : TickPoint h rs
-  unfolding mark_of logging_point
+  unfolding logging_point
   tick_point = record {
-    after_restart = λ t e. tick_is (some t) e;
-    at_zero = λ e z. tick_is none e ∙ rw (eq-eqb (total rs) 0 z);
-    below = λ e p. (low_total rs, tick_is none e ∙ rw (ne_eqb (total rs) 0 (λ z. omega arith)), low_greatest rs p);
+    after_restart = λ t e. tick_is (Some t) e;
+    at_zero = λ e z. tick_is None e ∙ rw (eq-eqb (total rs) 0 z);
+    below = λ e p. (low_total rs, tick_is None e ∙ rw (ne_eqb (total rs) 0 (λ z. omega arith)), low_greatest rs p);
   }
 
   -- ---- an exit
@@ -79,7 +77,7 @@ module _ (h : Host) (logs : h.session.state ≡ Logging) (a : Agrees h) where
         (λ f.
         picked Taken (room_for h.session h.area h.used r) _ _
         (λ _ _. record {
-          answers = ap point.At a.carries.carries_total;
+          answers = ap Some a.carries.carries_total;
           is_finished = kind_exit rs r a.carries.is_unfinished (may_end_lem e f);
           same_total = omega (arith, total_snoc rs r, exit_time r (may_end_lem e f));
         })

@@ -1,12 +1,12 @@
 -- A session's points never fall: a tick's is at most the total, a record stored makes the total before it the next point, and a
 -- closed session stays closed.
+use Rattle.std.specs.Prelude.{Option, Some, None}
 use Prim.Native.Nat.{ℕ, zero, suc, ◌+◌}
 use native.Mathlib.Omega.{arith}
 use mathlib.Core.Path.{◌≡◌, refl, sym, ap, subst, ◌∙◌}
 use mathlib.Core.Logic.{◌⊎◌, inl, inr}
 use mathlib.Core.Bool.{Bool, true, false}
 use mathlib.Core.List.{List, [], ◌∷◌}
-use mathlib.Core.Option.{Option, none, some}
 use lib.ListN.{length}
 use lib.Dec.{leb, eqb}
 use borrow.Author.Tests.{ne_eqb, eqb-true, eqb-false}
@@ -22,9 +22,6 @@ use Rattle.session.specs.Step.{Outcome, exit_record, grown, in_state, lengths_fi
 use Rattle.session_turn.specs.declared.State.{State}
 use Rattle.session_turn.specs.declared.State.TheVariants.{Logging, Closed}
 use Rattle.session.specs.declared.Session.{Session}
-use Rattle.session.specs.declared.Mark.TheVariants as mark
-use Rattle.session.specs.declared.Point.{Point}
-use Rattle.session.specs.declared.Point.TheVariants as point
 use Rattle.claim_agreement.specs.Calls.{Call, message, Host, answered, after, after_all, NoBreak, OneSession}
 use Rattle.claim_agreement.specs.Calls as call
 use Rattle.claim_agreement.specs.Agreement.{Agrees, Stands}
@@ -35,15 +32,15 @@ use Rattle.claim_agreement.proofs.Steps.{call_stands}
 use Rattle.claim_agreement.proofs.Points.{tick_point, exits}
 use Rattle.claim_agreement.proofs.Agreement.{in_logging_lem}
 
-at_most_same : (p : Point) → AtMost p p
-at_most_same point.Absent = tt
-at_most_same (point.At t) = omega arith
+at_most_same : (p : Option ℕ) → AtMost p p
+at_most_same None = tt
+at_most_same (Some t) = omega arith
 
-at_most_then : (p q r : Point) → AtMost p q → AtMost q r → AtMost p r
-at_most_then point.Absent q r h k = tt
-at_most_then (point.At t) point.Absent r h k = absurd h
-at_most_then (point.At t) (point.At u) point.Absent h k = absurd k
-at_most_then (point.At t) (point.At u) (point.At v) h k = omega arith
+at_most_then : (p q r : Option ℕ) → AtMost p q → AtMost q r → AtMost p r
+at_most_then None q r h k = tt
+at_most_then (Some t) None r h k = absurd h
+at_most_then (Some t) (Some u) None h k = absurd k
+at_most_then (Some t) (Some u) (Some v) h k = omega arith
 
 -- ---- one message in logging
 
@@ -51,22 +48,22 @@ module _ (h : Host) (logs : h.session.state ≡ Logging) (a : Agrees h) where
   abbrev se : Session
   se = h.session
 
-  abbrev Most : Point → Type 0
-  Most p = AtMost p (point.At se.total)
+  abbrev Most : Option ℕ → Type 0
+  Most p = AtMost p (Some se.total)
 
   -- a tick's point is at most the total
   most : Most (tick se)
   most = by_restart h.restart_point refl
     where
-      by_total : h.restart_point ≡ none → (n : ℕ) → total a.holds.records ≡ n → Most (tick se)
+      by_total : h.restart_point ≡ None → (n : ℕ) → total a.holds.records ≡ n → Most (tick se)
       by_total e zero z = subst Most (sym ((tick_point h logs a).at_zero e z)) tt
       by_total e (suc n) z =
           let b = (tick_point h logs a).below e (omega arith) in
           subst Most (sym b.1) (omega (arith, a.carries.carries_total, b.2.is_below))
 
       by_restart : (T : Option ℕ) → h.restart_point ≡ T → Most (tick se)
-      by_restart none e = by_total e (total a.holds.records) refl
-      by_restart (some t) e = subst Most (sym ((tick_point h logs a).after_restart t e)) (omega (arith, a.carries.carries_total, a.carries.at_point t e))
+      by_restart None e = by_total e (total a.holds.records) refl
+      by_restart (Some t) e = subst Most (sym ((tick_point h logs a).after_restart t e)) (omega (arith, a.carries.carries_total, a.carries.at_point t e))
 
   tick_logs : tick se ≡ point_in Logging (logging_point se.mark se.total se.low)
   unfolding tick
@@ -74,7 +71,7 @@ module _ (h : Host) (logs : h.session.state ≡ Logging) (a : Agrees h) where
 
   -- after a timed record: the point stays with no delay, and is the total before it with one
   by_delay : (d : ℕ) (b : Bool) → eqb d 0 ≡ b
-      → AtMost (tick se) (point_in Logging (logging_point (pick b se.mark mark.Nothing) (se.total + d) (pick b se.low se.total)))
+      → AtMost (tick se) (point_in Logging (logging_point (pick b se.mark None) (se.total + d) (pick b se.low se.total)))
   unfolding point_in logging_point
   by_delay d true e =
       let z : se.total + d ≡ se.total = omega (arith, eqb-true d 0 e) in
@@ -157,15 +154,15 @@ module _ (h : Host) (logs : h.session.state ≡ Logging) (a : Agrees h) where
   call_onward call.break n = absurd n
 
   -- the exit's point is the total
-  exit_rises : (s : Bytes) (t : ℕ) → (answered h s).point ≡ point.At t → AtMost (tick se) (point.At t)
+  exit_rises : (s : Bytes) (t : ℕ) → (answered h s).point ≡ Some t → AtMost (tick se) (Some t)
   exit_rises s t p = by_answer (refusals se h.area h.used s)
     where
-      by_answer : ((answered h s).refusal ≡ 0) ⊎ Refused h.area h.used (answered h s) → AtMost (tick se) (point.At t)
+      by_answer : ((answered h s).refusal ≡ 0) ⊎ Refused h.area h.used (answered h s) → AtMost (tick se) (Some t)
       by_answer (inr r) = absurd (never_at t (sym r.no_point ∙ p))
       by_answer (inl z) =
           let e = no_point.messages se h.area h.used s t p in
           let x = exits h logs a e.exit s e.is_exit z in
-          subst (AtMost (tick se)) (ap point.At a.carries.carries_total ∙ sym x.answers ∙ p) most
+          subst (AtMost (tick se)) (ap Some a.carries.carries_total ∙ sym x.answers ∙ p) most
 
 -- ---- a closed session
 
@@ -231,5 +228,5 @@ rising = record {
   exits = λ h s t g p. exit_rises h g.in_logging_lem (in_logging_lem h h.session.state g.in_logging_lem g.stands) s t p;
   restarts = λ h cs T n g e l.
       let a : Agrees h = in_logging_lem h h.session.state g.in_logging_lem g.stands in
-      subst (λ (p : Point). AtMost p (tick (after_all h cs).session)) ((tick_point h g.in_logging_lem a).after_restart T e) (rise h cs n g.stands g.in_logging_lem l);
+      subst (λ (p : Option ℕ). AtMost p (tick (after_all h cs).session)) ((tick_point h g.in_logging_lem a).after_restart T e) (rise h cs n g.stands g.in_logging_lem l);
 }

@@ -1,10 +1,10 @@
 -- Every call leaves the host as `InState` says, where it stood so before: with any bytes in its area, and with a file.
+use Rattle.std.specs.Prelude.{Option}
 use Prim.Native.Nat.{ℕ, ◌+◌, ◌-◌, ◌≤◌}
 use native.Mathlib.Omega.{arith}
 use mathlib.Core.Path.{◌≡◌, refl, ◌∙◌}
 use mathlib.Core.Bool.{Bool, true, false}
 use mathlib.Core.List.{List, [], ◌∷◌}
-use mathlib.Core.Option.{Option}
 use lib.ListN.{length, take}
 use lib.Seq.{take_at, length-take-le}
 use lib.Dec.{leb, eqb}

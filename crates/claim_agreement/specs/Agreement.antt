@@ -2,8 +2,7 @@
 -- the session carries used length, total, the greatest lower total and restart point, so a tick reads no area. A stored record is said
 -- over these for any area bytes; statements about the whole file need a host that hasn't changed the used bytes since." These are the
 -- statements about the whole file.
-use Rattle.std.specs.Prelude.{ℕ, ◌≤◌, ◌<◌, ◌≡◌, ◌⊎◌, true, List, ◌++◌, length, take, get_or}
-use Rattle.std.proofs.Math.Option.{Option, none, some}
+use Rattle.std.specs.Prelude.{ℕ, ◌≤◌, ◌<◌, ◌≡◌, ◌⊎◌, true, List, ◌++◌, length, take, get_or, Some, None}
 use Rattle.base_laws.specs.Base.{All}
 use Rattle.wire_message.specs.Message.{Bytes, Exit, Client, exit_msg}
 use Rattle.wire.specs.Read.{value, client_message, received}
@@ -15,9 +14,6 @@ use Rattle.session.specs.Step as session
 use Rattle.session.specs.Step.{Outcome, record_for}
 use Rattle.session_turn.specs.declared.State.{State}
 use Rattle.session_turn.specs.declared.State.TheVariants.{New, Greeted, Logging, EventsOnly, Closed}
-use Rattle.session.specs.declared.Mark.{Mark}
-use Rattle.session.specs.declared.Mark.TheVariants as mark
-use Rattle.session.specs.declared.Point.TheVariants as point
 use Rattle.claim_agreement.specs.Calls.{Call, Host, answered, after, after_all, begin}
 
 -- ---- what an area holds, whatever state its session is in
@@ -43,11 +39,6 @@ pub data AreaHolds (area : Bytes) (used : ℕ) : Type 0 where
 
 -- ---- what a session in logging carries
 
--- a restart point as a session carries it
-unfoldable pub mark_of : Option ℕ → Mark
-mark_of none = mark.Nothing
-mark_of (some t) = mark.At t
-
 -- the session's numbers are those of an unfinished file of these records
 pub record SessionCarries (h : Host) (rs : List Record) : Type 0 where
   pub is_unfinished : records_kind rs ≡ unfinished
@@ -55,9 +46,9 @@ pub record SessionCarries (h : Host) (rs : List Record) : Type 0 where
   pub carries_used : h.session.used ≡ h.used
   pub carries_total : h.session.total ≡ total rs
   pub carries_low : h.session.low ≡ low_total rs
-  pub carries_point : h.session.mark ≡ mark_of h.restart_point
+  pub carries_point : h.session.mark ≡ h.restart_point
   -- "It keeps the accept and all records whose total is at most T": while T holds it is the file's total
-  pub at_point : (t : ℕ) → h.restart_point ≡ some t → total rs ≡ t
+  pub at_point : (t : ℕ) → h.restart_point ≡ Some t → total rs ≡ t
 
 -- the area holds a file, and the session carries its numbers
 pub record Agrees (h : Host) : Type 0 where
@@ -70,7 +61,7 @@ module _ (Holds : Bytes → ℕ → Type 0) where
   -- before an accept or a restart
   pub record Unopened (h : Host) : Type 0 where
     pub holds : Holds h.area h.used
-    pub no_point : h.restart_point ≡ none
+    pub no_point : h.restart_point ≡ None
 
   abbrev pub InState : State → Host → Type 0
   InState New h = Unopened h
@@ -96,15 +87,15 @@ pub record GreatestBelow (t : ℕ) (rs : List Record) : Type 0 where
 -- a tick's point over a file of these records
 pub record TickPoint (h : Host) (rs : List Record) : Type 0 where
   -- "after a restart at T, the point is T until a record with a positive delay is stored; this goes before the rule above"
-  pub after_restart : (t : ℕ) → h.restart_point ≡ some t → session.tick h.session ≡ point.At t
+  pub after_restart : (t : ℕ) → h.restart_point ≡ Some t → session.tick h.session ≡ Some t
   -- "none if the present total is 0"
-  pub at_zero : h.restart_point ≡ none → total rs ≡ 0 → session.tick h.session ≡ point.Absent
+  pub at_zero : h.restart_point ≡ None → total rs ≡ 0 → session.tick h.session ≡ None
   -- "the point is the greatest total of a beginning of the file strictly below the present total"
-  pub below : h.restart_point ≡ none → 0 < total rs → (t : ℕ) × (session.tick h.session ≡ point.At t) × GreatestBelow t rs
+  pub below : h.restart_point ≡ None → 0 < total rs → (t : ℕ) × (session.tick h.session ≡ Some t) × GreatestBelow t rs
 
 -- "an exit in logging answers with the present total, 0 for no timed records": it is also the total of the finished file
 pub record Exited (rs : List Record) (d : Bytes) (e : Exit) (o : Outcome) : Type 0 where
-  pub answers : o.point ≡ point.At (total rs)
+  pub answers : o.point ≡ Some (total rs)
   pub is_finished : records_kind (rs ++ record_for d (exit_msg e)) ≡ finished
   pub same_total : total (rs ++ record_for d (exit_msg e)) ≡ total rs
 

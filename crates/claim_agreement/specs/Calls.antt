@@ -2,8 +2,7 @@
 -- on the used length last answered", and "statements about the whole file need a host that hasn't changed the used bytes since": each
 -- call gets the used length and the used bytes that the one before left; behind them there may be any others, more or fewer. "The host
 -- sees that only one connection at a time uses an area": a new one begins where the last one ended.
-use Rattle.std.specs.Prelude.{ℕ, List, [], ◌∷◌, ◌++◌, length, take, leb, eqb}
-use Rattle.std.proofs.Math.Option.{Option, none, some}
+use Rattle.std.specs.Prelude.{ℕ, List, [], ◌∷◌, ◌++◌, length, take, leb, eqb, Option, Some, None}
 use Rattle.base_laws.specs.Base.{pick, All}
 use Rattle.wire_message.specs.Message.{Bytes, Client, accept_msg, reject_msg, exit_msg, restart_msg, alert_msg, io_buf, winsize_event, suspend_event, hello_msg}
 use Rattle.wire.specs.Read.{Reading, value, refused, client_message}
@@ -28,11 +27,11 @@ pub record Host : Type 0 where
 -- ---- "after a restart at T, the point is T until a record with a positive delay is stored"
 
 unfoldable pub until_positive : ℕ → Option ℕ → Option ℕ
-until_positive delay T = pick (eqb delay 0) T none
+until_positive delay T = pick (eqb delay 0) T None
 
 -- the restart point after a message that was taken
 unfoldable pub after_taken : Client → Option ℕ → Option ℕ
-after_taken (restart_msg r) T = some (moment r.resume_point)
+after_taken (restart_msg r) T = Some (moment r.resume_point)
 after_taken (io_buf k i) T = until_positive (moment i.delay) T
 after_taken (winsize_event w) T = until_positive (moment w.delay) T
 after_taken (suspend_event s) T = until_positive (moment s.delay) T
@@ -64,7 +63,7 @@ with_behind h bs = pick (leb h.used (length h.area)) (take h.used h.area ++ bs) 
 
 -- a new session over an area of which this length is used
 abbrev pub begin : Bytes → ℕ → Host
-begin area used = record { session = new_session; area = area; used = used; restart_point = none }
+begin area used = record { session = new_session; area = area; used = used; restart_point = None }
 
 -- "A tick changes nothing."
 unfoldable pub after : Host → Call → Host

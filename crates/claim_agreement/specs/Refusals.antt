@@ -1,12 +1,11 @@
 -- Refusals. The request: "A refusal is one of the numbered ones in document 01, closes the session, and changes neither its stored
 -- bytes nor their used length." A tick gives a point or none and is never refused.
-use Rattle.std.specs.Prelude.{ℕ, ◌≡◌, ◌⊎◌, Bool, true, leb}
+use Rattle.std.specs.Prelude.{ℕ, ◌≡◌, ◌⊎◌, Bool, true, leb, None}
 use Rattle.base_laws.specs.Base.{both}
 use Rattle.wire_message.specs.Message.{Bytes}
 use Rattle.session.specs.Step.{Outcome, step}
 use Rattle.session_turn.specs.declared.State.TheVariants.{Closed}
 use Rattle.session.specs.declared.Session.{Session}
-use Rattle.session.specs.declared.Point.TheVariants as point
 
 -- "one of the numbered ones in document 01": the table "The refusals" goes from 1 to 15
 abbrev pub is_numbered : ℕ → Bool
@@ -25,7 +24,7 @@ pub record Refused (area : Bytes) (used : ℕ) (o : Outcome) : Type 0 where
   pub same_bytes : o.area ≡ area
   pub same_length : o.used ≡ used
   -- document 01: "for every other message, the answer has no point"
-  pub no_point : o.point ≡ point.Absent
+  pub no_point : o.point ≡ None
 
 -- of any message, in any session: it is taken, which the number 0 says, or refused
 abbrev pub Refusals : Type 0

@@ -80,6 +80,7 @@ config_examples = record {
   joined_remark = refl;
   two_backslashes = refl;
   last_backslash = refl;
+  numbers = (refl, refl, refl);
   before_section = refl;
   malformed = refl;
   malformed_in_unknown = refl;

@@ -12,6 +12,8 @@ use Rattle.conf_typed.specs.declared.Section.{Section}
 use Rattle.conf_typed.specs.declared.Section.TheVariants.{Unknown}
 use Rattle.conf_list.specs.Listing.{Setting}
 use Rattle.conf_read.specs.Config.{Statement, sets, refuses, is_unknown, is_wrong, setting_in, on_content, statements, statements_of, Verdict, refused_at, taken, after, verdict}
+use Rattle.conf_read.specs.declared.refusal.ConfRefusal.{ConfRefusal}
+use Rattle.conf_read.specs.declared.refusal.ConfRefusal.TheVariants.{Malformed, NoSection, BadValue}
 use Rattle.claim_config.specs.InOrder.{opens, open_after, Sets, NoneBad, FirstBad, Rising, InOrder}
 
 -- ---- the numbers rise
@@ -50,7 +52,7 @@ numbered text = rises (split text) 1 1 fresh (omega arith)
 data Says (n : ℕ) (xs : List Statement) : Type 0 where
   nothing : xs ≡ [] → Says n xs
   one : (x : Setting) → xs ≡ sets x ∷ [] → Says n xs
-  refusal : (r : ℕ) → xs ≡ refuses r n ∷ [] → Says n xs
+  refusal : (r : ConfRefusal) → xs ≡ refuses r n ∷ [] → Says n xs
 
 -- a line by itself
 abbrev alone : ℕ → Section → Content → List Statement
@@ -60,11 +62,11 @@ says : (n : ℕ) (s : Section) (c : Content) → Says n (alone n s c)
 unfolding on_content setting_in
 says n s empty = nothing refl
 says n s (section name) = nothing refl
-says n s bad = refusal 16 refl
+says n s bad = refusal Malformed refl
 says n s (setting k v) =
     picked (λ (x : Statement). Says n (x ∷ [])) (is_unknown s) _ _
-    (λ e. refusal 17 refl)
-    (λ e. picked (λ (x : Statement). Says n (x ∷ [])) (is_wrong (typed_of s (lower k) v)) _ _ (λ f. refusal 18 refl) (λ f. one _ refl))
+    (λ e. refusal NoSection refl)
+    (λ e. picked (λ (x : Statement). Says n (x ∷ [])) (is_wrong (typed_of s (lower k) v)) _ _ (λ f. refusal BadValue refl) (λ f. one _ refl))
 
 -- and then the lines behind it
 then_says : (go : Section → List Statement) (n : ℕ) (s : Section) (c : Content) → on_content go n s c ≡ alone n s c ++ go (opens s c)
@@ -96,14 +98,14 @@ sets_all [] ys a b = b
 sets_all (x ∷ xs) ys a b = (a.0, sets_all xs ys a.1 b)
 
 -- past statements that set something, a refusal stays where it is
-past_good : (xs ys : List Statement) (r n : ℕ) → All Sets xs → verdict ys ≡ refused_at r n → verdict (xs ++ ys) ≡ refused_at r n
+past_good : (xs ys : List Statement) (r : ConfRefusal) (n : ℕ) → All Sets xs → verdict ys ≡ refused_at r n → verdict (xs ++ ys) ≡ refused_at r n
 unfolding verdict after
 past_good [] ys r n g e = e
 past_good (sets s ∷ xs) ys r n g e = rw (past_good xs ys r n g.1 e)
 past_good (refuses q k ∷ xs) ys r n g e = absurd g.0
 
 -- a good line before the others
-further : (s : Section) (l : Line) (ls : List Line) (r n : ℕ) → All Sets (said s l) → FirstBad (opens s (of l)) ls r n → FirstBad s (l ∷ ls) r n
+further : (s : Section) (l : Line) (ls : List Line) (r : ConfRefusal) (n : ℕ) → All Sets (said s l) → FirstBad (opens s (of l)) ls r n → FirstBad s (l ∷ ls) r n
 unfolding open_after
 further s l ls r n g f = record {
   earlier = l ∷ f.earlier;
@@ -116,19 +118,19 @@ further s l ls r n g f = record {
 }
 
 -- the first line is bad
-at_once : (s : Section) (l : Line) (ls : List Line) (r n : ℕ) → said s l ≡ refuses r n ∷ [] → n ≡ l.number → FirstBad s (l ∷ ls) r n
+at_once : (s : Section) (l : Line) (ls : List Line) (r : ConfRefusal) (n : ℕ) → said s l ≡ refuses r n ∷ [] → n ≡ l.number → FirstBad s (l ∷ ls) r n
 unfolding open_after statements
 at_once s l ls r n e k = record { earlier = []; line = l; later = ls; lines = refl; good = tt; refused = e; numbered = k }
 
 -- ---- the first bad line
 
-after_refused : (s : Setting) (v : Verdict) (r n : ℕ) → after s v ≡ refused_at r n → v ≡ refused_at r n
+after_refused : (s : Setting) (v : Verdict) (r : ConfRefusal) (n : ℕ) → after s v ≡ refused_at r n → v ≡ refused_at r n
 unfolding after
 after_refused s (refused_at q k) r n e = e
 after_refused s (taken ss) r n e = cc
 
 -- what the verdict on a line and those behind it gives
-from_line : (s : Section) (l : Line) (ls : List Line) (r n : ℕ) → Says l.number (said s l)
+from_line : (s : Section) (l : Line) (ls : List Line) (r : ConfRefusal) (n : ℕ) → Says l.number (said s l)
     → ((t : Section) → verdict (statements t ls) ≡ refused_at r n → FirstBad t ls r n)
     → verdict (said s l ++ statements (opens s (of l)) ls) ≡ refused_at r n → FirstBad s (l ∷ ls) r n
 unfolding verdict
@@ -142,14 +144,14 @@ from_line s l ls r n (refusal q e) h v =
     let en : l.number ≡ n = cc in
     at_once s l ls r n (e ∙ (λ i. refuses (eq i) (en i) ∷ [])) (sym en)
 
-first_bad : (ls : List Line) (s : Section) (r n : ℕ) → verdict (statements s ls) ≡ refused_at r n → FirstBad s ls r n
+first_bad : (ls : List Line) (s : Section) (r : ConfRefusal) (n : ℕ) → verdict (statements s ls) ≡ refused_at r n → FirstBad s ls r n
 unfolding statements verdict
 first_bad [] s r n e = let z : ◌≡◌ {A = ℕ} 0 1 = cc in absurd (omega arith)
 first_bad (l ∷ ls) s r n e =
     from_line s l ls r n (says l.number s (of l)) (λ (t : Section). first_bad ls t r n)
     (ap verdict (sym (behind_line s l ls)) ∙ e)
 
-refused : (text : Bytes) (r n : ℕ) → verdict (statements_of text) ≡ refused_at r n → FirstBad Unknown (lines_at 1 text) r n
+refused : (text : Bytes) (r : ConfRefusal) (n : ℕ) → verdict (statements_of text) ≡ refused_at r n → FirstBad Unknown (lines_at 1 text) r n
 unfolding statements_of
 refused text r n e = first_bad (lines_at 1 text) Unknown r n e
 
@@ -165,19 +167,19 @@ behind_lines (l ∷ es) ls s =
     ∙ sym (append_assoc (said s l) (statements t es) (statements (open_after t es) ls))
     ∙ ap (λ (z : List Statement). z ++ statements (open_after t es) ls) (sym (behind_line s l es))
 
-refuses_first : (s : Section) (l : Line) (ls : List Line) (r n : ℕ) → statements s (l ∷ []) ≡ refuses r n ∷ []
+refuses_first : (s : Section) (l : Line) (ls : List Line) (r : ConfRefusal) (n : ℕ) → statements s (l ∷ []) ≡ refuses r n ∷ []
     → verdict (statements s (l ∷ ls)) ≡ refused_at r n
 unfolding verdict
 refuses_first s l ls r n e =
     ap verdict (behind_line s l ls ∙ ap (λ (z : List Statement). z ++ statements (opens s (of l)) ls) (sym (line_alone s l) ∙ e))
 
-first_wins : (s : Section) (ls : List Line) (r n : ℕ) → FirstBad s ls r n → verdict (statements s ls) ≡ refused_at r n
+first_wins : (s : Section) (ls : List Line) (r : ConfRefusal) (n : ℕ) → FirstBad s ls r n → verdict (statements s ls) ≡ refused_at r n
 first_wins s ls r n f =
     ap (λ (z : List Line). verdict (statements s z)) f.lines
     ∙ ap verdict (behind_lines f.earlier (f.line ∷ f.later) s)
     ∙ past_good (statements s f.earlier) _ r n f.good (refuses_first (open_after s f.earlier) f.line f.later r n f.refused)
 
-wins : (text : Bytes) (r n : ℕ) → FirstBad Unknown (lines_at 1 text) r n → verdict (statements_of text) ≡ refused_at r n
+wins : (text : Bytes) (r : ConfRefusal) (n : ℕ) → FirstBad Unknown (lines_at 1 text) r n → verdict (statements_of text) ≡ refused_at r n
 unfolding statements_of
 wins text r n f = first_wins Unknown (lines_at 1 text) r n f
 

@@ -1,6 +1,6 @@
 -- Texts and what is read of them, each shown of the definitions. Request 1 of document 02, at the sentences that can be read in two ways.
 use Prim.Native.String.{String}
-use Rattle.std.specs.Prelude.{◌≡◌, List, [], ◌∷◌, true, false, replicate}
+use Rattle.std.specs.Prelude.{◌≡◌, List, [], ◌∷◌, true, false, replicate, Ok, Err}
 use Rattle.base_laws.specs.Base.{All}
 use Rattle.conf_typed.specs.Typed.{name}
 use Rattle.conf_typed.specs.declared.Section.{Section}
@@ -8,7 +8,9 @@ use Rattle.conf_typed.specs.declared.Section.TheVariants.{Server, Relay, Iolog, 
 use Rattle.conf_list.specs.Listing.{Setting, listing}
 use Rattle.conf_read.specs.Config.{statements_of, Verdict, refused_at, taken, verdict, defaults, values_from, config_answer}
 use Rattle.conf_read.specs.declared.values.Values.{Values}
-use Rattle.conf_read.specs.declared.Config.TheVariants as config
+use Rattle.conf_read.specs.Refusals.{number_of, bad_line, refused}
+use Rattle.conf_read.specs.declared.refusal.ConfRefusal.TheVariants.{Malformed, NoSection, BadValue}
+use Rattle.conf_read.specs.declared.refusal.ConfigError.TheVariants.{NoRoom}
 use Rattle.claim_config.specs.WrittenBack.{Writable}
 use Rattle.claim_config.specs.Plain.{Pair, under, PlainPair}
 
@@ -61,35 +63,37 @@ pub record ConfigExamples : Type 0 where
   -- one `\` goes; at the end of the text it joins nothing
   pub two_backslashes : reading "[server]\na = b\\\\\nc" ≡ only "a" "b\\c"
   pub last_backslash : reading "[server]\na = b\\" ≡ only "a" "b"
+  -- the paper's numbers of the refusals below
+  pub numbers : (number_of Malformed ≡ 16) × (number_of NoSection ≡ 17) × (number_of BadValue ≡ 18)
   -- "16 line without `=` ..", "17 setting before any section or in an unknown one", "the first bad line wins"
-  pub before_section : reading "a = b\nfoo" ≡ refused_at 17 1
-  pub malformed : reading "x\n[server]" ≡ refused_at 16 1
-  pub malformed_in_unknown : reading "[x]\nfoo" ≡ refused_at 16 2
-  pub in_unknown : reading "[x]\na=b" ≡ refused_at 17 2
-  pub blanks_in_name : reading "[ server ]\na = b" ≡ refused_at 17 2
-  pub empty_name : reading "[]\na=b" ≡ refused_at 17 2
-  pub bracket_in_name : reading "[a]b]\nx=y" ≡ refused_at 17 2
+  pub before_section : reading "a = b\nfoo" ≡ refused_at NoSection 1
+  pub malformed : reading "x\n[server]" ≡ refused_at Malformed 1
+  pub malformed_in_unknown : reading "[x]\nfoo" ≡ refused_at Malformed 2
+  pub in_unknown : reading "[x]\na=b" ≡ refused_at NoSection 2
+  pub blanks_in_name : reading "[ server ]\na = b" ≡ refused_at NoSection 2
+  pub empty_name : reading "[]\na=b" ≡ refused_at NoSection 2
+  pub bracket_in_name : reading "[a]b]\nx=y" ≡ refused_at NoSection 2
   -- ".. or key, or with `[` first and no `]` last"
-  pub behind_header : reading "[server] a = b" ≡ refused_at 16 1
-  pub open_header : reading "[server" ≡ refused_at 16 1
-  pub no_key : reading "[server]\n= v" ≡ refused_at 16 2
+  pub behind_header : reading "[server] a = b" ≡ refused_at Malformed 1
+  pub open_header : reading "[server" ≡ refused_at Malformed 1
+  pub no_key : reading "[server]\n= v" ≡ refused_at Malformed 2
   -- "the line number from 1 (of a joined line, its first)"
-  pub joined_number : reading "[server]\n\\\n\\\nfoo" ≡ refused_at 16 2
-  pub behind_joined : reading "[server]\na = b\\\nc\nd" ≡ refused_at 16 4
+  pub joined_number : reading "[server]\n\\\n\\\nfoo" ≡ refused_at Malformed 2
+  pub behind_joined : reading "[server]\na = b\\\nc\nd" ≡ refused_at Malformed 4
   -- "`timeout` takes 0 to 4,294,967,295"
   pub greatest : (values_of Server "timeout" "4294967295").server.timeout ≡ 4294967295
   pub greatest_taken : reading "[server]\ntimeout = 4294967295" ≡ only "timeout" "4294967295"
-  pub too_great : reading "[server]\ntimeout = 4294967296" ≡ refused_at 18 2
+  pub too_great : reading "[server]\ntimeout = 4294967296" ≡ refused_at BadValue 2
   -- "`maxseq` .. cut to 2,176,782,336 and not 0"
-  pub maxseq_zero : reading "[iolog]\nmaxseq = 0" ≡ refused_at 18 2
-  pub maxseq_zeros : reading "[iolog]\nmaxseq = 00" ≡ refused_at 18 2
+  pub maxseq_zero : reading "[iolog]\nmaxseq = 0" ≡ refused_at BadValue 2
+  pub maxseq_zeros : reading "[iolog]\nmaxseq = 00" ≡ refused_at BadValue 2
   pub maxseq_greatest : (values_of Iolog "maxseq" "2176782336").maxseq ≡ 2176782336
   pub maxseq_cut : (values_of Iolog "maxseq" "2176782337").maxseq ≡ 2176782336
   -- "(true, false, yes, no, on, off, 1, 0)"; "the boolean words, in lower case only"
   pub off : (values_of Server "tcp_keepalive" "off").server.keepalive ≡ false
   pub relay_off : (values_of Relay "tcp_keepalive" "no").relay.keepalive ≡ false
   pub on_again : values_from defaults (given Server "tcp_keepalive" "0" ∷ given Server "tcp_keepalive" "yes" ∷ []) ≡ defaults
-  pub capital : reading "[server]\ntcp_keepalive = True" ≡ refused_at 18 2
+  pub capital : reading "[server]\ntcp_keepalive = True" ≡ refused_at BadValue 2
   pub elsewhere : reading "[eventlog]\ntcp_keepalive = maybe" ≡ taken (given Eventlog "tcp_keepalive" "maybe" ∷ [])
   -- "A key given twice is listed twice and its last typed reading counts"
   pub twice : reading "[server]\ntimeout=1\n[relay]\ntimeout=2\n[Server]\ntimeout=3" ≡ taken reopened
@@ -105,10 +109,10 @@ pub record ConfigExamples : Type 0 where
       listing (given Server "a" "b" ∷ [])
       ≡ 0x00 ∷ 0x00 ∷ 0x00 ∷ 0x06 ∷ 0x73 ∷ 0x65 ∷ 0x72 ∷ 0x76 ∷ 0x65 ∷ 0x72
       ∷ 0x00 ∷ 0x00 ∷ 0x00 ∷ 0x01 ∷ 0x61 ∷ 0x00 ∷ 0x00 ∷ 0x00 ∷ 0x01 ∷ 0x62 ∷ []
-  pub room : config_answer (name "[server]\nA=b") (replicate 20 0) ≡ config.Read 20 defaults
-  pub no_room : config_answer (name "[server]\nA=b") (replicate 19 0) ≡ config.NoRoom
+  pub room : config_answer (name "[server]\nA=b") (replicate 20 0) ≡ Ok (record { size = 20; values = defaults })
+  pub no_room : config_answer (name "[server]\nA=b") (replicate 19 0) ≡ Err NoRoom
   -- ".. after 16 to 18"
-  pub refused_first : config_answer (name "[server]\nA=b\nfoo") [] ≡ config.Refused 16 3
+  pub refused_first : config_answer (name "[server]\nA=b\nfoo") [] ≡ Err (refused (bad_line Malformed 3))
   -- `written_back` and `plain` speak of something: what they require holds of settings, a typed one and one with no value too
   pub writable : All Writable (under Server listen ∷ given Server "timeout" "5" ∷ given Relay "relay_host" "" ∷ [])
   pub plain : PlainPair Server listen

@@ -9,6 +9,7 @@ use Rattle.conf_typed.specs.declared.Section.{Section}
 use Rattle.conf_typed.specs.declared.Section.TheVariants.{Unknown}
 use Rattle.conf_list.specs.Listing.{Setting}
 use Rattle.conf_read.specs.Config.{Statement, sets, refuses, statements, statements_of, refused_at, taken, verdict}
+use Rattle.conf_read.specs.declared.refusal.ConfRefusal.{ConfRefusal}
 
 -- the section that is open behind a line, and behind lines
 unfoldable pub opens : Section → Content → Section
@@ -30,7 +31,7 @@ abbrev pub NoneBad : Section → List Line → Type 0
 NoneBad s ls = All Sets (statements s ls)
 
 -- the first bad line of some lines, with its refusal and its number; s is the section that is open before them
-pub record FirstBad (s : Section) (ls : List Line) (refusal number : ℕ) : Type 0 where
+pub record FirstBad (s : Section) (ls : List Line) (refusal : ConfRefusal) (number : ℕ) : Type 0 where
   pub earlier : List Line
   pub line : Line
   pub later : List Line
@@ -45,8 +46,8 @@ Rising n [] = Unit {0}
 Rising n (l ∷ ls) = (n ≤ l.number) × Rising (suc l.number) ls
 
 pub record InOrder : Type 0 where
-  pub refused : (text : Bytes) (r n : ℕ) → verdict (statements_of text) ≡ refused_at r n → FirstBad Unknown (lines_at 1 text) r n
+  pub refused : (text : Bytes) (r : ConfRefusal) (n : ℕ) → verdict (statements_of text) ≡ refused_at r n → FirstBad Unknown (lines_at 1 text) r n
   -- and a text with such a line is refused for it
-  pub wins : (text : Bytes) (r n : ℕ) → FirstBad Unknown (lines_at 1 text) r n → verdict (statements_of text) ≡ refused_at r n
+  pub wins : (text : Bytes) (r : ConfRefusal) (n : ℕ) → FirstBad Unknown (lines_at 1 text) r n → verdict (statements_of text) ≡ refused_at r n
   pub taken_whole : (text : Bytes) (ss : List Setting) → verdict (statements_of text) ≡ taken ss → NoneBad Unknown (lines_at 1 text)
   pub numbered : (text : Bytes) → Rising 1 (lines_at 1 text)

@@ -1,10 +1,10 @@
 -- The invariant of a connection at the host, and that each message of the sender's that is handed to the session keeps it.
+use Rattle.std.specs.Prelude.{Option, Some, None}
 use Prim.Native.Nat.{ℕ, suc, ◌+◌, ◌≤◌, ◌<◌}
 use native.Mathlib.Omega.{arith}
 use mathlib.Core.Path.{◌≡◌, refl, ap, sym, ◌∙◌}
 use mathlib.Core.Logic.{◌⊎◌, inl, inr}
 use mathlib.Core.Bool.{Bool, true, false}
-use mathlib.Core.Option.{Option, none, some}
 use mathlib.Core.List.{List, [], ◌∷◌, ◌++◌, append_assoc, append-nil, head-eq_of_cons-eq, tail-eq_of_cons-eq}
 use lib.Dec.{eqb}
 use lib.ListN.{length, take, length-append}
@@ -21,10 +21,6 @@ use Rattle.session.proofs.Turns.{may_open}
 use Rattle.session_turn.specs.declared.State.{State}
 use Rattle.session_turn.specs.declared.State.TheVariants.{New, Greeted, Logging, Closed}
 use Rattle.session.specs.declared.Session.{Session}
-use Rattle.session.specs.declared.Mark.{Mark}
-use Rattle.session.specs.declared.Mark.TheVariants as mark
-use Rattle.session.specs.declared.Point.{Point}
-use Rattle.session.specs.declared.Point.TheVariants as point
 use Rattle.claim_values.specs.Values.{TimedRecord, io, window, suspend, stored_for, timed_member}
 use Rattle.claim_values.proofs.Stored.{StorableTimed, time_is}
 use Rattle.claim_delivery.specs.Recording.{Recording, records, time, total_of, accept_of}
@@ -49,18 +45,18 @@ good_more : {R : Recording} {n T : ℕ} (m : ℕ) → n ≤ m → Good R n T →
 good_more m h g = record { reached = g.reached; held = omega (arith, g.held); below = g.below }
 
 abbrev pub PointOk : Recording → ℕ → Option ℕ → Type 0
-PointOk R n none = Unit {0}
-PointOk R n (some T) = Good R n T
+PointOk R n None = Unit {0}
+PointOk R n (Some T) = Good R n T
 
 point_more : (R : Recording) (n m : ℕ) → n ≤ m → (p : Option ℕ) → PointOk R n p → PointOk R m p
-point_more R n m h none g = tt
-point_more R n m h (some T) g = good_more m h g
+point_more R n m h None g = tt
+point_more R n m h (Some T) g = good_more m h g
 
 -- ---- answers under way
 
 -- a message's answer: a point is the recording's total, and where the sender stops at it the area holds all records
-pub record MessageOk (R : Recording) (n k : ℕ) (p : Point) : Type 0 where
-  pub is_total : (T : ℕ) → p ≡ point.At T → T ≡ total_of R.timed
+pub record MessageOk (R : Recording) (n k : ℕ) (p : Option ℕ) : Type 0 where
+  pub is_total : (T : ℕ) → p ≡ Some T → T ≡ total_of R.timed
   pub is_whole : stopped_after false (to_message k p) ≡ true → n ≡ length (records R)
 
 abbrev pub AnswerOk : Recording → ℕ → Answer → Type 0
@@ -70,15 +66,15 @@ AnswerOk R n (to_message k p) = MessageOk R n k p
 -- taken, with no point
 abbrev pub Quiet : Answer → Type 0
 Quiet (to_tick T) = ⊥
-Quiet (to_message k p) = (k ≡ 0) × (p ≡ point.Absent)
+Quiet (to_message k p) = (k ≡ 0) × (p ≡ None)
 
-no_point : (T : ℕ) → point.Absent ≡ point.At T → ⊥
+no_point : (T : ℕ) → None ≡ Some T → ⊥
 no_point T e = let z : ◌≡◌ {A = ℕ} 0 1 = cc in omega arith
 
 never : false ≡ true → ⊥
 never e = let z : ◌≡◌ {A = ℕ} 0 1 = cc in omega arith
 
-unpointed : (R : Recording) (n k : ℕ) → (eqb k 13 ≡ true → n ≡ length (records R)) → MessageOk R n k point.Absent
+unpointed : (R : Recording) (n k : ℕ) → (eqb k 13 ≡ true → n ≡ length (records R)) → MessageOk R n k None
 unfolding is_point
 unpointed R n k h = record { is_total = λ T e. absurd (no_point T e); is_whole = go (eqb k 13) refl }
   where
@@ -95,7 +91,7 @@ answer_more R n m h l (to_tick T) g = good_more m h g
 answer_more R n m h l (to_message k p) g = record { is_total = g.is_total; is_whole = λ e. omega (arith, g.is_whole e) }
 
 -- what goes under way for a message
-answers : (P : Answer → Type 0) (every : Bool) (k : ℕ) (p : Point) → P (to_message k p) → All P (answered every k p)
+answers : (P : Answer → Type 0) (every : Bool) (k : ℕ) (p : Option ℕ) → P (to_message k p) → All P (answered every k p)
 unfolding answered
 answers P every k p h = go (unsent every k p)
   where
@@ -127,28 +123,28 @@ told_more b [] ys e = ap (λ (x : Bool). told x ys) e ∙ told_on ys
 told_more b (a ∷ xs) ys e = told_more (stopped_after b a) xs ys e
 
 -- it stops at a last one
-told_last : (b : Bool) (xs : List Answer) (k : ℕ) (p : Point) → ((x : Bool) → stopped_after x (to_message k p) ≡ true) → told b (xs ++ (to_message k p ∷ [])) ≡ true
+told_last : (b : Bool) (xs : List Answer) (k : ℕ) (p : Option ℕ) → ((x : Bool) → stopped_after x (to_message k p) ≡ true) → told b (xs ++ (to_message k p ∷ [])) ≡ true
 unfolding told
 told_last b [] k p h = h b
 told_last b (a ∷ xs) k p h = told_last (stopped_after b a) xs k p h
 
 -- at an exit's point, at the refusal "finished"
-told_point : (b every : Bool) (xs : List Answer) (T : ℕ) → told b (xs ++ answered every 0 (point.At T)) ≡ true
+told_point : (b every : Bool) (xs : List Answer) (T : ℕ) → told b (xs ++ answered every 0 (Some T)) ≡ true
 unfolding answered unsent is_point
-told_point b true xs T = told_last b xs 0 (point.At T) (λ x. refl)
-told_point b false xs T = told_last b xs 0 (point.At T) (λ x. refl)
+told_point b true xs T = told_last b xs 0 (Some T) (λ x. refl)
+told_point b false xs T = told_last b xs 0 (Some T) (λ x. refl)
 
-told_finished : (b every : Bool) (xs : List Answer) → told b (xs ++ answered every 13 point.Absent) ≡ true
+told_finished : (b every : Bool) (xs : List Answer) → told b (xs ++ answered every 13 None) ≡ true
 unfolding answered unsent is_point
-told_finished b true xs = told_last b xs 13 point.Absent (λ x. refl)
-told_finished b false xs = told_last b xs 13 point.Absent (λ x. refl)
+told_finished b true xs = told_last b xs 13 None (λ x. refl)
+told_finished b false xs = told_last b xs 13 None (λ x. refl)
 
 -- ---- where a connection stands
 
 -- the session's own marks, n records stored and ys to come
-abbrev pub MarkOk : Recording → ℕ → List TimedRecord → ℕ → ℕ → Mark → Type 0
-MarkOk R n ys total low mark.Nothing = 0 < total → Good R n low
-MarkOk R n ys total low (mark.At T) = Good R n T × HeadLater ys
+abbrev pub MarkOk : Recording → ℕ → List TimedRecord → ℕ → ℕ → Option ℕ → Type 0
+MarkOk R n ys total low None = 0 < total → Good R n low
+MarkOk R n ys total low (Some T) = Good R n T × HeadLater ys
 
 -- what stands before the first message that matters: a hello in new, or nothing
 abbrev pub Lead : State → List Sent → List Sent → Type 0
@@ -182,7 +178,7 @@ none_in_rest R (t ∷ ts) = (tt, none_in_rest R ts)
 -- stop: has the sender stopped
 pub data Stage (R : Recording) (p : Option ℕ) (stop : Bool) (ms : List Sent) (d : Desk) : Type 0 where
   beginning : Lead d.session.state ms (accept R.accept ∷ rest R R.timed) → d.n ≡ 0 → Stage R p stop ms d
-  resuming : (T : ℕ) → Lead d.session.state ms (restart T ∷ rest R (later 0 T R.timed)) → p ≡ some T → All Quiet d.out → Stage R p stop ms d
+  resuming : (T : ℕ) → Lead d.session.state ms (restart T ∷ rest R (later 0 T R.timed)) → p ≡ Some T → All Quiet d.out → Stage R p stop ms d
   logging : Logs R ms d.session d.used d.n → Stage R p stop ms d
   over : d.session.state ≡ Closed → d.n ≡ length (records R) → All NoRestart ms → told stop d.out ≡ true → Stage R p stop ms d
 
@@ -202,15 +198,15 @@ pub record Inv (R : Recording) (c : ℕ) (p : Option ℕ) (stop : Bool) (ms : Li
 -- ---- a timed record
 
 -- one with delay zero is never sent at a restart point
-not_at_mark : (R : Recording) (n : ℕ) (se : Session) (t : TimedRecord) (ys : List TimedRecord) (m : Mark) → time t ≡ (stored_for t).delay
+not_at_mark : (R : Recording) (n : ℕ) (se : Session) (t : TimedRecord) (ys : List TimedRecord) (m : Option ℕ) → time t ≡ (stored_for t).delay
     → MarkOk R n (t ∷ ys) se.total se.low m → both (eqb (stored_for t).delay 0) (at_mark m se.total) ≡ false
 unfolding at_mark
-not_at_mark R n se t ys mark.Nothing h k = go (eqb (stored_for t).delay 0)
+not_at_mark R n se t ys None h k = go (eqb (stored_for t).delay 0)
   where
     go : (b : Bool) → both b false ≡ false
     go true = refl
     go false = refl
-not_at_mark R n se t ys (mark.At T) h k = rw (ne_eqb (stored_for t).delay 0 (λ e. let z = k.1 in omega arith))
+not_at_mark R n se t ys (Some T) h k = rw (ne_eqb (stored_for t).delay 0 (λ e. let z = k.1 in omega arith))
 
 -- the marks after it
 module _ (R : Recording) (n : ℕ) (se : Session) (t : TimedRecord) (xs ys : List TimedRecord) (split : xs ++ t ∷ ys ≡ R.timed) (n_is : n ≡ suc (length xs))
@@ -227,13 +223,13 @@ module _ (R : Recording) (n : ℕ) (se : Session) (t : TimedRecord) (xs ys : Lis
       zero_plus a = omega arith
 
   marks_after : MarkOk R n (t ∷ ys) se.total se.low se.mark → (b : Bool) → eqb (stored_for t).delay 0 ≡ b
-      → MarkOk R (suc n) ys (se.total + (stored_for t).delay) (pick b se.low se.total) (pick b se.mark mark.Nothing)
+      → MarkOk R (suc n) ys (se.total + (stored_for t).delay) (pick b se.low se.total) (pick b se.mark None)
   unfolding total
   marks_after m true e = still se.mark (eqb-true (stored_for t).delay 0 e) m
     where
-      still : (x : Mark) → (stored_for t).delay ≡ 0 → MarkOk R n (t ∷ ys) se.total se.low x → MarkOk R (suc n) ys (se.total + (stored_for t).delay) se.low x
-      still mark.Nothing z h = λ pos. good_more (suc n) (omega arith) (h (omega arith))
-      still (mark.At T) z h = absurd (let k = h.1 in omega arith)
+      still : (x : Option ℕ) → (stored_for t).delay ≡ 0 → MarkOk R n (t ∷ ys) se.total se.low x → MarkOk R (suc n) ys (se.total + (stored_for t).delay) se.low x
+      still None z h = λ pos. good_more (suc n) (omega arith) (h (omega arith))
+      still (Some T) z h = absurd (let k = h.1 in omega arith)
   marks_after m false e =
       let z : (stored_for t).delay ≡ 0 → ⊥ = eqb-false (stored_for t).delay 0 e in
       let pos : 0 < (stored_for t).delay = omega arith in
@@ -316,7 +312,7 @@ module _ (R : Recording) (storable : Storable R) (c : ℕ) (fits : length (file_
     room r x h = room_for_lem d.session d.area d.used s r h (omega (arith, i.holds.used_is, next_room R d.n r x, i.sized))
 
     -- a record that was stored
-    stored_to : (m : Client) (r : Record) (se : Session) (pt : Point) → client_message s ≡ value m → Next R d.n r → counted_member R m d.n ≡ suc d.n
+    stored_to : (m : Client) (r : Record) (se : Session) (pt : Option ℕ) → client_message s ≡ value m → Next R d.n r → counted_member R m d.n ≡ suc d.n
         → ((w : WholeRestart) → noted_member m w ≡ [])
         → se.used ≡ d.used + length (record_bytes r)
         → step d.session d.area d.used s ≡ carrying pt se (stored d.session d.area d.used r)
@@ -348,7 +344,7 @@ module _ (R : Recording) (storable : Storable R) (c : ℕ) (fits : length (file_
         let a : Record = accept_record R.accept in
         let x : Next R d.n a = rw z (next_accept R) in
         let u : d.used ≡ 0 = i.holds.used_is ∙ ap (λ (k : ℕ). length (file_bytes (take k (records R)))) z in
-        stored_to (accept_msg (accept_of R)) a (from_accept (d.used + length (record_bytes a))) point.Absent y.0.read x refl (λ w. refl) refl
+        stored_to (accept_msg (accept_of R)) a (from_accept (d.used + length (record_bytes a))) None y.0.read x refl (λ w. refl) refl
         (step_accept d.session d.area d.used s R storable.valid y.0 y.1 o (lengths 0 u) (room a x storable.accept_small))
         (unpointed R (suc d.n) 0 (λ b. absurd (never b)))
         (λ f se us k out. logging (record {
@@ -375,7 +371,7 @@ module _ (R : Recording) (storable : Storable R) (c : ℕ) (fits : length (file_
         let sums : total_of xs + (time t + total_of ys) ≡ total_of R.timed = sym (total_of_append xs (t ∷ ys)) ∙ ap total_of split in
         let marks : MarkOk R d.n (t ∷ ys) d.session.total d.session.low d.session.mark = rw e at l.mark_ok in
         let after_it = marks_after R d.n d.session t xs ys split l.n_is l.total_is delay marks (eqb (stored_for t).delay 0) refl in
-        stored_to (timed_member t) (stored_for t) (grown d.session (d.used + length (record_bytes (stored_for t))) (stored_for t).delay) point.Absent y.read x (counts_timed R t d.n) (notes_timed t) refl
+        stored_to (timed_member t) (stored_for t) (grown d.session (d.used + length (record_bytes (stored_for t))) (stored_for t).delay) None y.read x (counts_timed R t d.n) (notes_timed t) refl
         (step_timed d.session d.area d.used s t y v.in_range_lem l.state_is (lengths d.session.used l.used_same)
         (omega (arith, l.total_is, storable.valid.within_limit)) (not_at_mark R d.n d.session t ys d.session.mark delay marks) (room (stored_for t) x v.small))
         (unpointed R (suc d.n) 0 (λ b. absurd (never b)))
@@ -403,17 +399,17 @@ module _ (R : Recording) (storable : Storable R) (c : ℕ) (fits : length (file_
         let full : suc d.n ≡ length (records R) = omega (arith, size R) in
         stored_to (exit_msg R.exit) r
         (ended d.session (d.used + length (record_bytes r)))
-        (point.At d.session.total) y.read x refl (λ w. refl) refl
+        (Some d.session.total) y.read x refl (λ w. refl) refl
         (step_exit d.session d.area d.used s R.exit y storable.valid.exit_in_range l.state_is (lengths d.session.used l.used_same) (room r x storable.exit_small))
         (record { is_total = λ T q. sym (at_same q) ∙ l.total_is ∙ ap total_of all_of; is_whole = λ q. full })
         (λ f se us k out. over (ap (λ (q : Session). q.state) se) (k ∙ full) (rw gone tt)
         (ap (told stop) out ∙ told_point stop d.every d.out d.session.total))
       where
-        at_same : {a b : ℕ} → point.At a ≡ point.At b → a ≡ b
+        at_same : {a b : ℕ} → Some a ≡ Some b → a ≡ b
         at_same q = cc
 
     -- a hello: nothing of the area or the book changes
-    hello_to : Says s hello → d.session.state ≡ New → ((e : Desk) → e.session.state ≡ Greeted → e.n ≡ d.n → e.out ≡ d.out ++ answered d.every 0 point.Absent → Stage R p stop ms e) → To
+    hello_to : Says s hello → d.session.state ≡ New → ((e : Desk) → e.session.state ≡ Greeted → e.n ≡ d.n → e.out ≡ d.out ++ answered d.every 0 None → Stage R p stop ms e) → To
     unfolding after noted_member booked counted counted_member
     hello_to y h st =
         rw (hand_is s (hello_msg y.0) d (taken d.session d.area d.used Greeted) d.n y.1.read
@@ -423,8 +419,8 @@ module _ (R : Recording) (storable : Storable R) (c : ℕ) (fits : length (file_
           sized = i.sized;
           within = i.within;
           restarts_ok = all_append RestartOk d.restarts [] i.restarts_ok tt;
-          out-ok = all_append (AnswerOk R d.n) d.out (answered d.every 0 point.Absent) i.out-ok
-              (answers (AnswerOk R d.n) d.every 0 point.Absent (unpointed R d.n 0 (λ b. absurd (never b))));
+          out-ok = all_append (AnswerOk R d.n) d.out (answered d.every 0 None) i.out-ok
+              (answers (AnswerOk R d.n) d.every 0 None (unpointed R d.n 0 (λ b. absurd (never b))));
           point_ok = i.point_ok;
           stage = st (after (hello_msg y.0) d (taken d.session d.area d.used Greeted) d.n) refl refl refl;
         })
@@ -438,14 +434,14 @@ module _ (R : Recording) (storable : Storable R) (c : ℕ) (fits : length (file_
     unfolding may_open
     hello_begins y h e z = hello_to y h (λ f st k o. beginning (inr (ap may_open st, e)) (k ∙ z))
 
-    pub hello_resumes : (T : ℕ) → Says s hello → d.session.state ≡ New → ms ≡ restart T ∷ rest R (later 0 T R.timed) → p ≡ some T → All Quiet d.out → To
+    pub hello_resumes : (T : ℕ) → Says s hello → d.session.state ≡ New → ms ≡ restart T ∷ rest R (later 0 T R.timed) → p ≡ Some T → All Quiet d.out → To
     unfolding may_open
     hello_resumes T y h e q o =
-        hello_to y h (λ f st k out. resuming T (inr (ap may_open st, e)) q (rw out (all_append Quiet d.out (answered d.every 0 point.Absent) o (answers Quiet d.every 0 point.Absent (refl, refl)))))
+        hello_to y h (λ f st k out. resuming T (inr (ap may_open st, e)) q (rw out (all_append Quiet d.out (answered d.every 0 None) o (answers Quiet d.every 0 None (refl, refl)))))
 
     -- a refusal over a finished file leaves all as it was
     refused_to : (m : Client) (k : ℕ) → Reads s m → eqb k 0 ≡ false → step d.session d.area d.used s ≡ refuse d.session d.area d.used k 0
-        → d.n ≡ length (records R) → All NoRestart ms → told stop (d.out ++ answered d.every k point.Absent) ≡ true
+        → d.n ≡ length (records R) → All NoRestart ms → told stop (d.out ++ answered d.every k None) ≡ true
         → ((w : WholeRestart) → w.refusal ≡ k → w.carried ≡ true → All RestartOk (noted_member m w)) → To
     unfolding after noted_member
     refused_to m k r z gives e left stops notes =
@@ -456,8 +452,8 @@ module _ (R : Recording) (storable : Storable R) (c : ℕ) (fits : length (file_
           within = i.within;
           restarts_ok = all_append RestartOk d.restarts (noted_member m (record { refusal = k; carried = carried })) i.restarts_ok
               (notes _ refl (carried_is ∙ eq-eqb d.n (length (records R)) e));
-          out-ok = all_append (AnswerOk R d.n) d.out (answered d.every k point.Absent) i.out-ok
-              (answers (AnswerOk R d.n) d.every k point.Absent (unpointed R d.n k (λ b. e)));
+          out-ok = all_append (AnswerOk R d.n) d.out (answered d.every k None) i.out-ok
+              (answers (AnswerOk R d.n) d.every k None (unpointed R d.n k (λ b. e)));
           point_ok = i.point_ok;
           stage = over refl e left stops;
         })
@@ -466,7 +462,7 @@ module _ (R : Recording) (storable : Storable R) (c : ℕ) (fits : length (file_
     pub over_to : (m : Client) → Reads s m → ((w : WholeRestart) → noted_member m w ≡ []) → d.session.state ≡ Closed → d.n ≡ length (records R) → All NoRestart ms
         → told stop d.out ≡ true → To
     over_to m r quiet h e left stops =
-        refused_to m 9 r refl (step_closed d.session d.area d.used s m r h) e left (told_more stop d.out (answered d.every 9 point.Absent) stops)
+        refused_to m 9 r refl (step_closed d.session d.area d.used s m r h) e left (told_more stop d.out (answered d.every 9 None) stops)
         (λ w _ _. rw (quiet w) tt)
 
     -- a restart of a finished file
@@ -480,7 +476,7 @@ module _ (R : Recording) (storable : Storable R) (c : ℕ) (fits : length (file_
     -- a restart that is taken
     restart_taken : (v : Restart) → Reads s (restart_msg v) → restart_fits v ≡ true → may_open d.session.state ≡ true
         → (xs ys : List TimedRecord) → xs ++ ys ≡ R.timed → d.n ≡ suc (length xs)
-        → ms ≡ rest R (later 0 (moment v.resume_point) R.timed) → p ≡ some (moment v.resume_point) → Good R d.n (moment v.resume_point) → All Quiet d.out → To
+        → ms ≡ rest R (later 0 (moment v.resume_point) R.timed) → p ≡ Some (moment v.resume_point) → Good R d.n (moment v.resume_point) → All Quiet d.out → To
     unfolding after noted_member counted_member
     restart_taken v r h o xs ys e k m q g quiet =
         let T : ℕ = moment v.resume_point in
@@ -492,7 +488,7 @@ module _ (R : Recording) (storable : Storable R) (c : ℕ) (fits : length (file_
         let is-first : take (suc (length K)) (records R) ≡ begun R K = first R K (later 0 T R.timed) (kept_later 0 T R.timed) in
         let good : Good R (suc (length K)) T = record { reached = g.reached; held = omega arith; below = g.below } in
         let se : Session = resumes d.session d.area d.used s T (begun R xs) in
-        rw (hand_is s (restart_msg v) d (carrying point.Absent se d.area) (suc (length K)) r.read
+        rw (hand_is s (restart_msg v) d (carrying None se d.area) (suc (length K)) r.read
         (step_restart d.session d.area d.used s v r h o within (begun R xs)
         (ap records_of i.holds.shows ∙ ap (λ (z : ℕ). records_of (file_bytes (take z (records R)))) k ∙ read_begun R storable xs ys e) (begun_unfinished R storable xs ys e)
         (meets_begun R T xs (ap total_of same ∙ g.reached)))
@@ -503,9 +499,9 @@ module _ (R : Recording) (storable : Storable R) (c : ℕ) (fits : length (file_
           within = omega (arith, g.held);
           restarts_ok = all_append RestartOk d.restarts (record { refusal = 0; carried = carried } ∷ []) i.restarts_ok
               (ap (λ (b : Bool). pick b 13 0) (sym (carried_is ∙ ne_eqb d.n (length (records R)) (λ z. omega arith))), tt);
-          out-ok = all_append (AnswerOk R (suc (length K))) d.out (answered d.every 0 point.Absent)
+          out-ok = all_append (AnswerOk R (suc (length K))) d.out (answered d.every 0 None)
               (all_map Quiet (AnswerOk R (suc (length K))) (quiet_ok R (suc (length K))) d.out quiet)
-              (answers (AnswerOk R (suc (length K))) d.every 0 point.Absent (unpointed R (suc (length K)) 0 (λ b. absurd (never b))));
+              (answers (AnswerOk R (suc (length K))) d.every 0 None (unpointed R (suc (length K)) 0 (λ b. absurd (never b))));
           point_ok = rw q good;
           stage = logging (record {
             stored_ones = K;
@@ -521,15 +517,15 @@ module _ (R : Recording) (storable : Storable R) (c : ℕ) (fits : length (file_
         })
 
     -- a restart, taken or not
-    pub restart_to : (T : ℕ) → Says s (restart T) → may_open d.session.state ≡ true → ms ≡ rest R (later 0 T R.timed) → p ≡ some T → All Quiet d.out → To
+    pub restart_to : (T : ℕ) → Says s (restart T) → may_open d.session.state ≡ true → ms ≡ rest R (later 0 T R.timed) → p ≡ Some T → All Quiet d.out → To
     restart_to T y o m q quiet =
         let v : Restart = y.values in
         let m' : ms ≡ rest R (later 0 (moment v.resume_point) R.timed) = m ∙ ap (λ (z : ℕ). rest R (later 0 z R.timed)) (sym y.is_at) in
-        let q' : p ≡ some (moment v.resume_point) = q ∙ ap some (sym y.is_at) in
+        let q' : p ≡ Some (moment v.resume_point) = q ∙ ap Some (sym y.is_at) in
         let g : Good R d.n (moment v.resume_point) = rw q' at i.point_ok in
         go m' q' g (count R d.n i.within)
       where
-        go : ms ≡ rest R (later 0 (moment y.values.resume_point) R.timed) → p ≡ some (moment y.values.resume_point) → Good R d.n (moment y.values.resume_point)
+        go : ms ≡ rest R (later 0 (moment y.values.resume_point) R.timed) → p ≡ Some (moment y.values.resume_point) → Good R d.n (moment y.values.resume_point)
             → Count R d.n → To
         go m' q' g (nothing z) = absurd (omega (arith, g.held))
         go m' q' g (some_of xs ys e k) = restart_taken y.values y.reads y.in_range_lem o xs ys e k m' q' g quiet

@@ -1,11 +1,11 @@
 -- From any state that a list can reach, the sender can go on to a finished file and its stop.
+use Rattle.std.specs.Prelude.{Option, Some, None}
 use Prim.Native.Nat.{ℕ, suc, ◌+◌, ◌≤◌, ◌<◌}
 use native.Mathlib.Nat.{le_refl}
 use native.Mathlib.Omega.{arith}
 use mathlib.Core.Path.{◌≡◌, refl, ap, sym, ◌∙◌, subst}
 use mathlib.Core.Logic.{inl, inr}
 use mathlib.Core.Bool.{Bool, true, false}
-use mathlib.Core.Option.{Option, none, some}
 use mathlib.Core.List.{List, [], ◌∷◌, ◌++◌, append-nil, nil≢cons}
 use lib.Dec.{leb}
 use lib.ListN.{length, take, drop_of_length-le}
@@ -46,12 +46,12 @@ proper_append R (e ∷ es) fs w p q = (p.0, proper_append R es fs (happens R w w
 -- ---- there is always a fresh area: those from some number on are unused
 
 abbrev ConnectionBelow : ℕ → Option Connection → Type 0
-ConnectionBelow n none = Unit {0}
-ConnectionBelow n (some c) = c.area < n
+ConnectionBelow n None = Unit {0}
+ConnectionBelow n (Some c) = c.area < n
 
 abbrev PlaceBelow : ℕ → Option Place → Type 0
-PlaceBelow n none = Unit {0}
-PlaceBelow n (some p) = p.area < n
+PlaceBelow n None = Unit {0}
+PlaceBelow n (Some p) = p.area < n
 
 record Unused (w : World) (n : ℕ) : Type 0 where
   from : (a : ℕ) → n ≤ a → w.used a ≡ 0
@@ -64,12 +64,12 @@ record Bounded (w : World) : Type 0 where
   unused : Unused w bound
 
 place_more : (n m : ℕ) → n ≤ m → (p : Option Place) → PlaceBelow n p → PlaceBelow m p
-place_more n m h none b = tt
-place_more n m h (some p) b = omega arith
+place_more n m h None b = tt
+place_more n m h (Some p) b = omega arith
 
 area_below : (n a : ℕ) (p : Option Place) → PlaceBelow n p → area_of p a < n + suc a
-area_below n a none b = omega arith
-area_below n a (some p) b = omega arith
+area_below n a None b = omega arith
+area_below n a (Some p) b = omega arith
 
 opened_bounded : (w : World) (bs : List Bytes) (a : ℕ) → Bounded w → Bounded (opened w bs a)
 unfolding opened
@@ -108,21 +108,21 @@ module _ (R : Recording) (w : World) (c : Connection) (n : ℕ) (from : (a : ℕ
   arrived_bounded : (out : List Answer) → Bounded w → Bounded (arrived w c out)
   unfolding arrived
   arrived_bounded [] b = b
-  arrived_bounded (to_tick t ∷ out) b = same_areas (some (record { area = c.area; at = t })) w.stopped w.part (some _) here here
-  arrived_bounded (to_message k p ∷ out) b = same_areas w.latest _ w.part (some _) latest here
+  arrived_bounded (to_tick t ∷ out) b = same_areas (Some (record { area = c.area; at = t })) w.stopped w.part (Some _) here here
+  arrived_bounded (to_message k p ∷ out) b = same_areas w.latest _ w.part (Some _) latest here
 
   inside_bounded : (e : Event) → Bounded w → Bounded (inside R w c e)
   unfolding inside came_in
   inside_bounded (opening h bs a) b = b
   inside_bounded (bytes k) b = settled_bounded _ _ _
-  inside_bounded tick b = same_areas w.latest w.stopped w.part (some _) latest here
+  inside_bounded tick b = same_areas w.latest w.stopped w.part (Some _) latest here
   inside_bounded arrival b = arrived_bounded c.out b
-  inside_bounded break b = same_areas w.latest w.stopped [] none latest tt
+  inside_bounded break b = same_areas w.latest w.stopped [] None latest tt
 
 happens_bounded : (R : Recording) (w : World) (o : Option Connection) (e : Event) → w.connection ≡ o → Bounded w → Bounded (happens R w o e)
 unfolding happens
-happens_bounded R w none e q b = outside_bounded w e b
-happens_bounded R w (some c) e q b = inside_bounded R w c b.bound b.unused.from (rw q at b.unused.connected) b.unused.latest_there e b
+happens_bounded R w None e q b = outside_bounded w e b
+happens_bounded R w (Some c) e q b = inside_bounded R w c b.bound b.unused.from (rw q at b.unused.connected) b.unused.latest_there e b
 
 run_bounded : (R : Recording) (es : List Event) (w : World) → Bounded w → Bounded (run R es w)
 unfolding run
@@ -160,10 +160,10 @@ all_greater P sum T (t ∷ ts) a = go (leb (sum + time t) T) (all_greater P (sum
     go true r = r
     go false r = (a.0, r)
 
-lined_messages : (R : Recording) → Sendable R → (p : Option Place) → ((q : Place) → p ≡ some q → (s : Bytes) × Says s (restart q.at)) → Lined (messages R p)
+lined_messages : (R : Recording) → Sendable R → (p : Option Place) → ((q : Place) → p ≡ Some q → (s : Bytes) × Says s (restart q.at)) → Lined (messages R p)
 unfolding messages
-lined_messages R s none r = lined_more (accept R.accept) (rest R R.timed) s.accepts (lined_rest R s R.timed s.times)
-lined_messages R s (some q) r =
+lined_messages R s None r = lined_more (accept R.accept) (rest R R.timed) s.accepts (lined_rest R s R.timed s.times)
+lined_messages R s (Some q) r =
     lined_more (restart q.at) (rest R (greater 0 q.at R.timed)) (r q refl)
     (lined_rest R s (greater 0 q.at R.timed) (all_greater SaysTimed 0 q.at R.timed s.times))
 
@@ -205,7 +205,7 @@ arrivals (a ∷ out) = arrival ∷ arrivals out
 
 module _ (R : Recording) (blank : ℕ → Bytes) where
   -- a connection with nothing lined up and no whole frame at the host has come to the recording's end
-  came_whole : (w : World) (c : Connection) → WorldOk R blank w → w.connection ≡ some c → c.line ≡ [] → Short w.part → Ended R w.stopped (desk w c)
+  came_whole : (w : World) (c : Connection) → WorldOk R blank w → w.connection ≡ Some c → c.line ≡ [] → Short w.part → Ended R w.stopped (desk w c)
   unfolding desk
   came_whole w c ok e l s =
       let k : Link R blank w c = subst (LinkOk R blank w) e ok.link in
@@ -222,7 +222,7 @@ module _ (R : Recording) (blank : ℕ → Bytes) where
     book_same : (run R (arrivals out) w).book ≡ w.book
     stop_is : (run R (arrivals out) w).stopped ≡ told w.stopped out
 
-  heard : (out : List Answer) (w : World) (c : Connection) → w.connection ≡ some c → c.out ≡ out → Heard w out
+  heard : (out : List Answer) (w : World) (c : Connection) → w.connection ≡ Some c → c.out ≡ out → Heard w out
   unfolding arrivals run AllProper Proper happens inside arrived told
   heard [] w c e o = record { proper = tt; book_same = refl; stop_is = refl }
   heard (a ∷ out) w c e o =
@@ -238,14 +238,14 @@ module _ (R : Recording) (blank : ℕ → Bytes) where
   -- a connection that has come to its end
   record Finishes (w : World) : Type 0 where
     last_one : Connection
-    connects : w.connection ≡ some last_one
+    connects : w.connection ≡ Some last_one
     ends : Ended R w.stopped (desk w last_one)
 
   -- bytes are always proper
   bytes_proper : (w : World) (o : Option Connection) (k : ℕ) → Proper R w o (bytes k)
   unfolding Proper
-  bytes_proper w none k = tt
-  bytes_proper w (some c) k = tt
+  bytes_proper w None k = tt
+  bytes_proper w (Some c) k = tt
 
   -- the list that goes on from a world
   record Goes (w : World) : Type 0 where
@@ -255,7 +255,7 @@ module _ (R : Recording) (blank : ℕ → Bytes) where
     stops : (run R more w).stopped ≡ true
 
   module _ (storable : Storable R) (fits : (a : ℕ) → length (file_bytes (records R)) ≤ length (blank a)) (small : (a : ℕ) → length (blank a) ≤ 1073741824) where
-    module _ (w : World) (ok : WorldOk R blank w) (unconnected : w.connection ≡ none) (on : w.stopped ≡ false) (a : ℕ) (is-fresh : Fresh w w.latest a)
+    module _ (w : World) (ok : WorldOk R blank w) (unconnected : w.connection ≡ None) (on : w.stopped ≡ false) (a : ℕ) (is-fresh : Fresh w w.latest a)
         (l : Lined (messages R w.latest)) where
       line : Bytes
       line = frames l.bodies
@@ -315,17 +315,17 @@ module _ (R : Recording) (blank : ℕ → Bytes) where
           }
 
     fresh_at : (w : World) (b : Bounded w) (p : Option Place) → Fresh w p b.bound
-    fresh_at w b none = b.unused.from b.bound (le_refl b.bound)
-    fresh_at w b (some p) = tt
+    fresh_at w b None = b.unused.from b.bound (le_refl b.bound)
+    fresh_at w b (Some p) = tt
 
     -- the latest point is within the limit
-    point_within : (w : World) → WorldOk R blank w → (p : Place) → w.latest ≡ some p → p.at ≤ limit
+    point_within : (w : World) → WorldOk R blank w → (p : Place) → w.latest ≡ Some p → p.at ≤ limit
     point_within w ok p e =
-        let g : LatestOk R w.book (some p) = subst (LatestOk R w.book) e ok.latest_ok in
+        let g : LatestOk R w.book (Some p) = subst (LatestOk R w.book) e ok.latest_ok in
         omega (arith, g.below, storable.valid.within_limit)
 
     module _ (sends : Sendable R) where
-      unconnected_goes : (w : World) → WorldOk R blank w → Bounded w → w.connection ≡ none → Goes w
+      unconnected_goes : (w : World) → WorldOk R blank w → Bounded w → w.connection ≡ None → Goes w
       unfolding run AllProper
       unconnected_goes w ok b e = go w.stopped refl
         where
@@ -341,8 +341,8 @@ module _ (R : Recording) (blank : ℕ → Bytes) where
       goes w ok b = go w.connection refl
         where
           go : (o : Option Connection) → w.connection ≡ o → Goes w
-          go none e = unconnected_goes w ok b e
-          go (some c) e =
+          go None e = unconnected_goes w ok b e
+          go (Some c) e =
               let proper : Proper R w w.connection break = subst (λ (o : Option Connection). Proper R w o break) (sym e) tt in
               let broken : happens R w w.connection break ≡ inside R w c break = ap (λ (o : Option Connection). happens R w o break) e in
               let ok' : WorldOk R blank (inside R w c break) = subst (WorldOk R blank) broken (run_ok R blank storable fits small (break ∷ []) w (proper, tt) ok) in
@@ -370,8 +370,8 @@ module _ (R : Recording) where
 
   under_way_lem : (blank : ℕ → Bytes) (w : World) (o : Option Connection) → LinkOk R blank w o → All (TellsEnd R) (under_way o)
   unfolding desk
-  under_way_lem blank w none l = tt
-  under_way_lem blank w (some c) l = all_map (AnswerOk R (w.book c.area)) (TellsEnd R) (tells (w.book c.area)) c.out l.inv.out-ok
+  under_way_lem blank w None l = tt
+  under_way_lem blank w (Some c) l = all_map (AnswerOk R (w.book c.area)) (TellsEnd R) (tells (w.book c.area)) c.out l.inv.out-ok
 
 on_from : (d : Delivery) → Sendable d.recording → GoesOn d
 on_from d s =

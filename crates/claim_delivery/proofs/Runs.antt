@@ -1,10 +1,10 @@
 -- The invariant of the world, and that each event keeps it.
+use Rattle.std.specs.Prelude.{Option, Some, None}
 use Prim.Native.Nat.{ℕ, zero, suc, ◌≤◌}
 use native.Mathlib.Omega.{arith}
 use mathlib.Core.Path.{◌≡◌, refl, ap, sym, ◌∙◌}
 use mathlib.Core.Logic.{◌⊎◌, inl, inr}
 use mathlib.Core.Bool.{Bool, true, false}
-use mathlib.Core.Option.{Option, none, some}
 use mathlib.Core.List.{List, [], ◌∷◌, ◌++◌, append_assoc, append-nil, map}
 use lib.Dec.{eqb}
 use lib.ListN.{length, take, drop, length-append, take-append-drop}
@@ -21,10 +21,6 @@ use Rattle.session.specs.Step.{accept_record, exit_record, logging_point, point_
 use Rattle.session.proofs.Turns.{may_open}
 use Rattle.session_turn.specs.declared.State.{State}
 use Rattle.session_turn.specs.declared.State.TheVariants.{New, Greeted, Logging, EventsOnly, Closed}
-use Rattle.session.specs.declared.Mark.{Mark}
-use Rattle.session.specs.declared.Mark.TheVariants as mark
-use Rattle.session.specs.declared.Point.{Point}
-use Rattle.session.specs.declared.Point.TheVariants as point
 use Rattle.claim_values.specs.Values.{TimedRecord, stored_for}
 use Rattle.claim_delivery.specs.Recording.{Recording, records}
 use Rattle.claim_delivery.specs.Sender.{Place, Sent, messages, with_hello, Lines}
@@ -38,12 +34,12 @@ use Rattle.claim_delivery.proofs.Desk.{Good, PointOk, AnswerOk, Quiet, MarkOk, L
 
 -- the sender's latest point, seen from its area
 abbrev placed : ℕ → Option ℕ → Option Place
-placed a none = none
-placed a (some T) = some (record { area = a; at = T })
+placed a None = None
+placed a (Some T) = Some (record { area = a; at = T })
 
 abbrev pub LatestOk : Recording → (ℕ → ℕ) → Option Place → Type 0
-LatestOk R book none = Unit {0}
-LatestOk R book (some p) = Good R (book p.area) p.at
+LatestOk R book None = Unit {0}
+LatestOk R book (Some p) = Good R (book p.area) p.at
 
 pub record AreaOk (R : Recording) (area : Bytes) (used n : ℕ) : Type 0 where
   pub holds : Holds area used (take n (records R))
@@ -67,8 +63,8 @@ module _ (R : Recording) (blank : ℕ → Bytes) where
     pub inv : Inv R (length (blank c.area)) sees w.stopped coming (desk w c)
 
   abbrev pub LinkOk : World → Option Connection → Type 0
-  LinkOk w none = w.part ≡ []
-  LinkOk w (some c) = Link w c
+  LinkOk w None = w.part ≡ []
+  LinkOk w (Some c) = Link w c
 
   pub record WorldOk (w : World) : Type 0 where
     pub sizes : (a : ℕ) → length (w.area a) ≡ length (blank a)
@@ -97,12 +93,12 @@ module _ (R : Recording) (blank : ℕ → Bytes) where
   Ticked : Desk → Desk
   Ticked d = with_out d (d.out ++ tick_answers (session.tick d.session))
 
-  no_tick : (d : Desk) → session.tick d.session ≡ point.Absent → Ticked d ≡ d
+  no_tick : (d : Desk) → session.tick d.session ≡ None → Ticked d ≡ d
   unfolding Ticked tick_answers
-  no_tick d h = ap (λ (z : Point). with_out d (d.out ++ tick_answers z)) h ∙ ap (with_out d) (append-nil d.out)
+  no_tick d h = ap (λ (z : Option ℕ). with_out d (d.out ++ tick_answers z)) h ∙ ap (with_out d) (append-nil d.out)
 
   -- where no record can be stored a tick gives none
-  opening_quiet : (st : State) (p : Point) → may_open st ≡ true → point_in st p ≡ point.Absent
+  opening_quiet : (st : State) (p : Option ℕ) → may_open st ≡ true → point_in st p ≡ None
   unfolding may_open point_in
   opening_quiet New p e = refl
   opening_quiet Greeted p e = refl
@@ -110,17 +106,17 @@ module _ (R : Recording) (blank : ℕ → Bytes) where
   opening_quiet EventsOnly p e = refl
   opening_quiet Closed p e = refl
 
-  lead_quiet : (st : State) (p : Point) (ms l : List Sent) → Lead st ms l → point_in st p ≡ point.Absent
+  lead_quiet : (st : State) (p : Option ℕ) (ms l : List Sent) → Lead st ms l → point_in st p ≡ None
   unfolding point_in
   lead_quiet st p ms l (inl (e, q)) = ap (λ (x : State). point_in x p) e
   lead_quiet st p ms l (inr (e, q)) = opening_quiet st p e
 
-  mark_point_lem : (n : ℕ) (ys : List TimedRecord) (total low : ℕ) (m : Mark) → MarkOk R n ys total low m → All (AnswerOk R n) (tick_answers (logging_point m total low))
+  mark_point_lem : (n : ℕ) (ys : List TimedRecord) (total low : ℕ) (m : Option ℕ) → MarkOk R n ys total low m → All (AnswerOk R n) (tick_answers (logging_point m total low))
   unfolding logging_point tick_answers
-  mark_point_lem n ys total low (mark.At T) g = (g.0, tt)
-  mark_point_lem n ys total low mark.Nothing g = go (eqb total 0) refl
+  mark_point_lem n ys total low (Some T) g = (g.0, tt)
+  mark_point_lem n ys total low None g = go (eqb total 0) refl
     where
-      go : (b : Bool) → eqb total 0 ≡ b → All (AnswerOk R n) (tick_answers (pick b point.Absent (point.At low)))
+      go : (b : Bool) → eqb total 0 ≡ b → All (AnswerOk R n) (tick_answers (pick b None (Some low)))
       go true e = tt
       go false e = (g (let z = eqb-false total 0 e in omega arith), tt)
 
@@ -128,7 +124,7 @@ module _ (R : Recording) (blank : ℕ → Bytes) where
   unfolding Ticked session.tick point_in
   ticked_ok c p stop ms d i = go i.stage
     where
-      point : Point
+      point : Option ℕ
       point = logging_point d.session.mark d.session.total d.session.low
 
       go : Stage R p stop ms d → Inv R c p stop ms (Ticked d)
@@ -199,8 +195,8 @@ module _ (R : Recording) (blank : ℕ → Bytes) where
       area_of a false = ok.areas a
 
       latest_at : (p : Option ℕ) → PointOk R d.n p → LatestOk R (put c.area d.n w.book) (placed c.area p)
-      latest_at none g = tt
-      latest_at (some T) g = rw (eq-eqb c.area c.area refl) g
+      latest_at None g = tt
+      latest_at (Some T) g = rw (eq-eqb c.area c.area refl) g
 
       still_at : (a : ℕ) (b : Bool) → eqb c.area a ≡ b → w.book a ≡ length (records R) → pick b d.n (w.book a) ≡ length (records R)
       still_at a true h q = full (ap w.book (eqb-true c.area a h) ∙ q)
@@ -241,12 +237,12 @@ module _ (R : Recording) (blank : ℕ → Bytes) where
       go (logging l) = logging l
 
   point_place : (book : ℕ → ℕ) (a : ℕ) (q : Option ℕ) → PointOk R (book a) q → LatestOk R book (placed a q)
-  point_place book a none g = tt
-  point_place book a (some T) g = g
+  point_place book a None g = tt
+  point_place book a (Some T) g = g
 
   moved : (w : World) (c : Connection) (a : Answer) (out : List Answer) (q : Option ℕ) (latest : Option Place) → WorldOk w → (l : Link w c)
       → c.out ≡ a ∷ out → latest ≡ placed c.area q → PointOk R (w.book c.area) q → (Quiet a → q ≡ l.sees) → (stopped_after w.stopped a ≡ true → Whole R w.book)
-      → WorldOk (with_connection w latest (stopped_after w.stopped a) w.part (some (sending c out)))
+      → WorldOk (with_connection w latest (stopped_after w.stopped a) w.part (Some (sending c out)))
   unfolding desk
   moved w c a out q latest ok l e p g same s = record {
     sizes = ok.sizes;
@@ -274,7 +270,7 @@ module _ (R : Recording) (blank : ℕ → Bytes) where
   unfolding arrived desk
   arrival_ok w c ok l [] e = ok
   arrival_ok w c ok l (to_tick T ∷ out) e =
-      moved w c (to_tick T) out (some T) (some (record { area = c.area; at = T })) ok l e refl (rw e at l.inv.out-ok).0 (λ z. absurd z) ok.stopped_ok
+      moved w c (to_tick T) out (Some T) (Some (record { area = c.area; at = T })) ok l e refl (rw e at l.inv.out-ok).0 (λ z. absurd z) ok.stopped_ok
   arrival_ok w c ok l (to_message k p ∷ out) e =
       moved w c (to_message k p) out l.sees w.latest ok l e l.latest_is l.inv.point_ok (λ z. refl)
       (λ s. go (stopped_before w.stopped (to_message k p) s))
@@ -306,19 +302,19 @@ module _ (R : Recording) (blank : ℕ → Bytes) where
   opened_ok : (w : World) (l : Option Place) (h : Bool) (bs : List Bytes) (a : ℕ) → WorldOk w → w.part ≡ [] → w.latest ≡ l
       → Lines bs (with_hello h (messages R l)) → Fresh w l a → WorldOk (opened w bs a)
   unfolding opened desk messages
-  opened_ok w (some p) h bs a ok part e lined t = record {
+  opened_ok w (Some p) h bs a ok part e lined t = record {
     sizes = ok.sizes;
     areas = ok.areas;
     restarts_ok = ok.restarts_ok;
     latest_ok = ok.latest_ok;
     stopped_ok = ok.stopped_ok;
     link = rw e (record {
-      sees = some p.at;
+      sees = Some p.at;
       bodies = bs;
-      coming = with_hello h (messages R (some p));
+      coming = with_hello h (messages R (Some p));
       latest_is = refl;
       lined = ap (λ (z : Bytes). z ++ frames bs) part;
-      fit = lines_fit bs (with_hello h (messages R (some p))) lined;
+      fit = lines_fit bs (with_hello h (messages R (Some p))) lined;
       read_as = lined;
       inv = record {
         holds = (ok.areas p.area).holds;
@@ -327,23 +323,23 @@ module _ (R : Recording) (blank : ℕ → Bytes) where
         restarts_ok = ok.restarts_ok;
         out-ok = tt;
         point_ok = rw e at ok.latest_ok;
-        stage = resuming p.at (rw (← greater_is 0 p.at R.timed) (lead h (messages R (some p)))) refl tt;
+        stage = resuming p.at (rw (← greater_is 0 p.at R.timed) (lead h (messages R (Some p)))) refl tt;
       };
     });
   }
-  opened_ok w none h bs a ok part e lined t = record {
+  opened_ok w None h bs a ok part e lined t = record {
     sizes = ok.sizes;
     areas = ok.areas;
     restarts_ok = ok.restarts_ok;
     latest_ok = ok.latest_ok;
     stopped_ok = ok.stopped_ok;
     link = rw e (record {
-      sees = none;
+      sees = None;
       bodies = bs;
-      coming = with_hello h (messages R none);
+      coming = with_hello h (messages R None);
       latest_is = refl;
       lined = ap (λ (z : Bytes). z ++ frames bs) part;
-      fit = lines_fit bs (with_hello h (messages R none)) lined;
+      fit = lines_fit bs (with_hello h (messages R None)) lined;
       read_as = lined;
       inv = record {
         holds = (ok.areas a).holds;
@@ -352,12 +348,12 @@ module _ (R : Recording) (blank : ℕ → Bytes) where
         restarts_ok = ok.restarts_ok;
         out-ok = tt;
         point_ok = tt;
-        stage = beginning (lead h (messages R none)) (fresh_zero (w.area a) (w.used a) (w.book a) (ok.areas a) t);
+        stage = beginning (lead h (messages R None)) (fresh_zero (w.area a) (w.used a) (w.book a) (ok.areas a) t);
       };
     });
   }
 
-  outside_ok : (w : World) (e : Event) → Proper R w none e → WorldOk w → w.part ≡ [] → WorldOk (outside w e)
+  outside_ok : (w : World) (e : Event) → Proper R w None e → WorldOk w → w.part ≡ [] → WorldOk (outside w e)
   unfolding outside Proper
   outside_ok w (opening h bs a) p ok part = go w.stopped refl
     where
@@ -404,8 +400,8 @@ module _ (R : Recording) (blank : ℕ → Bytes) where
 
     happens_ok : (w : World) (o : Option Connection) (e : Event) → Proper R w o e → WorldOk w → LinkOk w o → WorldOk (happens R w o e)
     unfolding happens
-    happens_ok w none e p ok l = outside_ok w e p ok l
-    happens_ok w (some c) e p ok l = inside_ok w c e ok l
+    happens_ok w None e p ok l = outside_ok w e p ok l
+    happens_ok w (Some c) e p ok l = inside_ok w c e ok l
 
     pub run_ok : (es : List Event) (w : World) → AllProper R es w → WorldOk w → WorldOk (run R es w)
     unfolding run AllProper

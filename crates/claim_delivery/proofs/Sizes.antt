@@ -1,9 +1,9 @@
 -- A recording whose messages were lined up once can be stored: what a message that fits a frame holds is short (`wire`, Sizes).
+use Rattle.std.specs.Prelude.{None}
 use native.Mathlib.Omega.{arith}
 use mathlib.Core.Path.{◌≡◌, ap}
 use mathlib.Core.Bool.{Bool, true, false}
 use mathlib.Core.List.{List, [], ◌∷◌}
-use mathlib.Core.Option as option
 use lib.ListN.{length, length-append}
 use Rattle.base_laws.specs.Base.{All}
 use Rattle.wire_message.specs.Message.{Bytes, Exit, exit_msg, io_buf, suspend_event}
@@ -62,12 +62,12 @@ module _ (R : Recording) (v : Valid R) where
   rest_said (t ∷ ts) [] l = absurd l
   rest_said (t ∷ ts) (b ∷ bs) l = let r = rest_said ts bs l.1 in (((b, l.0), r.0), r.1)
 
-  first_said : (bs : List Bytes) → Lines bs (messages R option.none) → Storable R
+  first_said : (bs : List Bytes) → Lines bs (messages R None) → Storable R
   unfolding messages
   first_said [] l = absurd l
   first_said (b ∷ bs) l = let r = rest_said R.timed bs l.1 in storable_sent (record { accepts = (b, l.0); times = r.0; exits = r.1 })
 
-  pub storable_lined : (h : Bool) (bs : List Bytes) → Lines bs (with_hello h (messages R option.none)) → Storable R
+  pub storable_lined : (h : Bool) (bs : List Bytes) → Lines bs (with_hello h (messages R None)) → Storable R
   storable_lined false bs l = first_said bs l
   storable_lined true [] l = absurd l
   storable_lined true (b ∷ bs) l = first_said bs l.1

@@ -1,4 +1,5 @@
 -- The session's step in each case that this sender can meet.
+use Rattle.std.specs.Prelude.{Some, None}
 use Prim.Native.Nat.{ℕ, ◌+◌, ◌-◌, ◌≤◌}
 use native.Mathlib.Omega.{arith}
 use mathlib.Core.Path.{◌≡◌, refl, ap, sym, ◌∙◌}
@@ -19,7 +20,6 @@ use Rattle.session.specs.Step.{moment, accept_record, exit_record, from_accept, 
 use Rattle.session_turn.specs.declared.State.{State}
 use Rattle.session_turn.specs.declared.State.TheVariants.{New, Greeted, Logging, EventsOnly, Closed}
 use Rattle.session.specs.declared.Session.{Session}
-use Rattle.session.specs.declared.Point.TheVariants as point
 use Rattle.session.proofs.Turns.{may_open, opens, accept_placed}
 use Rattle.claim_values.specs.Values.{TimedRecord, io, window, suspend, stored_for, timed_in_range, timed_member}
 use Rattle.claim_delivery.specs.Recording.{Recording, accept_of, Valid}
@@ -58,7 +58,7 @@ module _ (se : Session) (area : Bytes) (used : ℕ) (s : Bytes) where
 
   pub step_accept : (R : Recording) → Valid R → Reads s (accept_msg (accept_of R)) → received s ≡ R.accept → may_open se.state ≡ true
       → lengths_fit (length area) used 0 ≡ true → room_for se area used (accept_record R.accept) ≡ true
-      → step se area used s ≡ carrying point.Absent (from_accept (used + length (record_bytes (accept_record R.accept)))) (stored se area used (accept_record R.accept))
+      → step se area used s ≡ carrying None (from_accept (used + length (record_bytes (accept_record R.accept)))) (stored se area used (accept_record R.accept))
   unfolding turn act accept_stored
   step_accept R v r d o l p =
       let a : Accept = accept_of R in
@@ -79,7 +79,7 @@ module _ (se : Session) (area : Bytes) (used : ℕ) (s : Bytes) where
 
   pub step_timed : (t : TimedRecord) → Reads s (timed_member t) → timed_in_range t ≡ true → se.state ≡ Logging → lengths_fit (length area) used se.used ≡ true
       → se.total + (stored_for t).delay ≤ limit → both (eqb (stored_for t).delay 0) (at_mark se.mark se.total) ≡ false → room_for se area used (stored_for t) ≡ true
-      → step se area used s ≡ carrying point.Absent (grown se (used + length (record_bytes (stored_for t))) (stored_for t).delay) (stored se area used (stored_for t))
+      → step se area used s ≡ carrying None (grown se (used + length (record_bytes (stored_for t))) (stored_for t).delay) (stored se area used (stored_for t))
   unfolding timed growth_refusal
   step_timed t r v e l h z p =
       in_state_lem Logging (timed_member t) r e ∙ acts_timed t (received s) v ∙ rw (l, le-leb (se.total + (stored_for t).delay) limit h, z, p)
@@ -87,7 +87,7 @@ module _ (se : Session) (area : Bytes) (used : ℕ) (s : Bytes) where
   -- ---- the exit in logging
 
   pub step_exit : (e : Exit) → Reads s (exit_msg e) → exit_fits e ≡ true → se.state ≡ Logging → lengths_fit (length area) used se.used ≡ true
-      → room_for se area used (exit_record e) ≡ true → step se area used s ≡ carrying (point.At se.total) (ended se (used + length (record_bytes (exit_record e)))) (stored se area used (exit_record e))
+      → room_for se area used (exit_record e) ≡ true → step se area used s ≡ carrying (Some se.total) (ended se (used + length (record_bytes (exit_record e)))) (stored se area used (exit_record e))
   unfolding in_turn turn ending act on_exit exit_stored
   step_exit e r v st l p = in_state_lem Logging (exit_msg e) r st ∙ ap (λ (x : State). on_exit se area used x e) st ∙ rw (l, v, p)
 
@@ -105,7 +105,7 @@ module _ (se : Session) (area : Bytes) (used : ℕ) (s : Bytes) where
 
   pub step_restart : (r : Restart) → Reads s (restart_msg r) → restart_fits r ≡ true → may_open se.state ≡ true → within_area (length area) used ≡ true
       → (rs : List Record) → records_of (take used area) ≡ all rs → records_kind rs ≡ unfinished → meets (moment r.resume_point) 0 rs ≡ true
-      → step se area used s ≡ carrying point.Absent (resumes (moment r.resume_point) rs) area
+      → step se area used s ≡ carrying None (resumes (moment r.resume_point) rs) area
   unfolding of_records by_kind resumed
   step_restart r h v o l rs e k p = to_file r h v o l ∙ rw (e, k, p)
 

@@ -1,6 +1,6 @@
 -- The host. Document 01: "the host cuts frames and hands each whole message to the session." It hands on the used length last
 -- answered, and keeps the book and a log of whole restarts.
-use Rattle.std.specs.Prelude.{ℕ, zero, suc, ◌+◌, Bool, true, false, not, List, [], ◌∷◌, ◌++◌, length, take, drop, eqb}
+use Rattle.std.specs.Prelude.{ℕ, zero, suc, ◌+◌, Bool, true, false, not, List, [], ◌∷◌, ◌++◌, length, take, drop, eqb, Option, Some, None}
 use Rattle.base_laws.specs.Base.{pick, both}
 use Rattle.wire_frame.specs.Frame.{cut_of}
 use Rattle.wire_frame.specs.declared.Cut.{Cut}
@@ -11,8 +11,6 @@ use Rattle.file_format.specs.Digits.{digits}
 use Rattle.file_format.specs.File.{FileKind, invalid, unfinished, finished, file_kind}
 use Rattle.session.specs.Step.{Outcome, step, moment}
 use Rattle.session.specs.declared.Session.{Session}
-use Rattle.session.specs.declared.Point.{Point}
-use Rattle.session.specs.declared.Point.TheVariants as point
 use Rattle.claim_delivery.specs.Recording.{Recording, records, at_most}
 
 -- ---- frames. "Four bytes, most significant first, give the message length; then the message."
@@ -97,18 +95,18 @@ noted (refused k) w = []
 -- an answer under way: a tick's point; a message's refusal, 0 for none, with its point
 pub data Answer : Type 0 where
   to_tick : ℕ → Answer
-  to_message : ℕ → Point → Answer
+  to_message : ℕ → Option ℕ → Answer
 
-unfoldable pub is_point : Point → Bool
-is_point point.Absent = false
-is_point (point.At t) = true
+unfoldable pub is_point : Option ℕ → Bool
+is_point None = false
+is_point (Some t) = true
 
 -- what goes under way for a message. Document 01 leaves open whether an answer without a refusal and without a point does: with `every` it
 -- does, else it does not
-unfoldable pub unsent : Bool → ℕ → Point → Bool
+unfoldable pub unsent : Bool → ℕ → Option ℕ → Bool
 unsent every k p = both (not every) (both (eqb k 0) (not (is_point p)))
 
-unfoldable pub answered : Bool → ℕ → Point → List Answer
+unfoldable pub answered : Bool → ℕ → Option ℕ → List Answer
 answered every k p = pick (unsent every k p) [] (to_message k p ∷ [])
 
 -- a connection at the host: its session, the lent area with its used length and its n; the log; the answers under way, and whether they are

@@ -1,11 +1,9 @@
 -- Beyond the letter of demand 3: a sender that has stopped has its whole recording in a file, and from any state that a list can
 -- reach it can go on to a finished file and its stop. So a session that refuses all, or answers nothing, does not do.
-use Rattle.std.specs.Prelude.{ℕ, ◌<◌, ◌≡◌, true, List, [], ◌++◌}
-use Rattle.std.proofs.Math.Option.{Option, none, some}
+use Rattle.std.specs.Prelude.{ℕ, ◌<◌, ◌≡◌, true, List, [], ◌++◌, Option, Some, None}
 use Rattle.base_laws.specs.Base.{All}
 use Rattle.wire_message.specs.Message.{Bytes}
 use Rattle.file_format.specs.File.{file_bytes}
-use Rattle.session.specs.declared.Point.TheVariants as point
 use Rattle.claim_values.specs.Values.{TimedRecord}
 use Rattle.claim_delivery.specs.Recording.{Recording, records, total_of}
 use Rattle.claim_delivery.specs.Sender.{accept, timed, exit, Says}
@@ -21,13 +19,13 @@ pub record Sendable (R : Recording) : Type 0 where
 
 -- what is under way
 abbrev pub under_way : Option Connection → List Answer
-under_way none = []
-under_way (some c) = c.out
+under_way None = []
+under_way (Some c) = c.out
 
 -- a tick's point is never the whole total; an exit's point is
 abbrev pub TellsEnd : Recording → Answer → Type 0
 TellsEnd R (to_tick T) = T < total_of R.timed
-TellsEnd R (to_message k p) = (T : ℕ) → p ≡ point.At T → T ≡ total_of R.timed
+TellsEnd R (to_message k p) = (T : ℕ) → p ≡ Some T → T ≡ total_of R.timed
 
 -- an area's file holds the whole recording
 pub record Done (R : Recording) (w : World) : Type 0 where

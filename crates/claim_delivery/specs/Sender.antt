@@ -1,7 +1,6 @@
 -- The sender. The request: "After a break its sender resumes with a valid restart at the latest commit point it received, in that
 -- point's area, then sends all records with a greater total, and the exit; having received none, it begins in a fresh area."
-use Rattle.std.specs.Prelude.{ℕ, ◌≤◌, ◌≡◌, Bool, true, false, List, [], ◌∷◌, ◌++◌, map, length}
-use Rattle.std.proofs.Math.Option.{Option, none, some}
+use Rattle.std.specs.Prelude.{ℕ, ◌≤◌, ◌≡◌, Bool, true, false, List, [], ◌∷◌, ◌++◌, map, length, Option, Some, None}
 use Rattle.wire_fields.specs.Items.{items}
 use Rattle.wire_message.specs.Message as m
 use Rattle.wire_message.specs.Message.{Bytes, Exit, Restart, Client, accept_msg, exit_msg, restart_msg, hello_msg}
@@ -30,8 +29,8 @@ rest R ts = map timed ts ++ (exit R.exit ∷ [])
 
 -- the sender's messages, by the latest commit point it received
 unfoldable pub messages : Recording → Option Place → List Sent
-messages R none = accept R.accept ∷ rest R R.timed
-messages R (some p) = restart p.at ∷ rest R (greater 0 p.at R.timed)
+messages R None = accept R.accept ∷ rest R R.timed
+messages R (Some p) = restart p.at ∷ rest R (greater 0 p.at R.timed)
 
 -- "a valid hello or none"
 abbrev pub with_hello : Bool → List Sent → List Sent

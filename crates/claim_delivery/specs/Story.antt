@@ -1,8 +1,7 @@
 -- Demand 3 is not empty: a list of events in which all happens that can go wrong. The line breaks inside the exit's frame; the
 -- sender resumes with a hello at the last point it received, where two more records share that moment; the exit's point is lost;
 -- the next restart is refused with "finished", and the sender stops.
-use Rattle.std.specs.Prelude.{ℕ, ◌≡◌, true, false, List, [], ◌∷◌, ◌++◌, pos, drop, replicate}
-use Rattle.std.proofs.Math.Option.{some}
+use Rattle.std.specs.Prelude.{ℕ, ◌≡◌, true, false, List, [], ◌∷◌, ◌++◌, pos, drop, replicate, Some}
 use Rattle.wire_message.specs.Message.{Bytes}
 use Rattle.file_format.specs.File.{file_bytes}
 use Rattle.claim_values.specs.Values.{TimedRecord, io}
@@ -53,7 +52,7 @@ pub record Story : Type 0 where
   pub listed : Listed true blank recording story
   -- four timed records before the break, and the point before the last of them
   pub first_book : (after true blank recording first).book 5 ≡ 5
-  pub first_point : (after true blank recording first).latest ≡ some (record { area = 5; at = 1000000000 })
+  pub first_point : (after true blank recording first).latest ≡ Some (record { area = 5; at = 1000000000 })
   -- the exit's point was lost
   pub second_book : (after true blank recording (first ++ second)).book 5 ≡ 6
   pub second_on : (after true blank recording (first ++ second)).stopped ≡ false

@@ -1,12 +1,9 @@
 -- Demand 3's list: one sender with one recording, many areas, a connection that breaks. Document 01, "Demand 3's list".
-use Rattle.std.specs.Prelude.{ℕ, ◌≡◌, Bool, true, false, List, [], ◌∷◌, ◌++◌, take, drop, eqb}
-use Rattle.std.proofs.Math.Option.{Option, none, some}
+use Rattle.std.specs.Prelude.{ℕ, ◌≡◌, Bool, true, false, List, [], ◌∷◌, ◌++◌, take, drop, eqb, Option, Some, None}
 use Rattle.base_laws.specs.Base.{pick}
 use Rattle.wire_message.specs.Message.{Bytes}
 use Rattle.session.specs.Step as session
 use Rattle.session.specs.declared.Session.{Session}
-use Rattle.session.specs.declared.Point.{Point}
-use Rattle.session.specs.declared.Point.TheVariants as point
 use Rattle.claim_delivery.specs.Recording.{Recording}
 use Rattle.claim_delivery.specs.Sender.{Place, messages, with_hello, Lines}
 use Rattle.claim_delivery.specs.Host.{frames, Drained, cut_all, WholeRestart, Answer, to_tick, to_message, is_point, Desk, hand_all}
@@ -46,10 +43,10 @@ fresh every blank = record {
   used = λ a. 0;
   book = λ a. 0;
   restarts = [];
-  latest = none;
+  latest = None;
   stopped = false;
   part = [];
-  connection = none;
+  connection = None;
   every = every;
 }
 
@@ -79,18 +76,18 @@ with_connection w latest stopped part c = record {
 
 -- "in that point's area", or in the fresh one
 abbrev pub area_of : Option Place → ℕ → ℕ
-area_of (some p) a = p.area
-area_of none a = a
+area_of (Some p) a = p.area
+area_of None a = a
 
 -- "having received none, it begins in a fresh area"; "fresh (used length 0)"
 abbrev pub Fresh : World → Option Place → ℕ → Type 0
-Fresh w (some p) a = Unit {0}
-Fresh w none a = w.used a ≡ 0
+Fresh w (Some p) a = Unit {0}
+Fresh w None a = w.used a ≡ 0
 
 unfoldable pub opened : World → List Bytes → ℕ → World
 opened w bodies a =
     with_connection w w.latest w.stopped w.part
-    (some (record { area = area_of w.latest a; session = session.new_session; line = frames bodies; out = [] }))
+    (Some (record { area = area_of w.latest a; session = session.new_session; line = frames bodies; out = [] }))
 
 -- ---- "Bytes are the next of these, any number"
 
@@ -110,7 +107,7 @@ settled w c d line part = record {
   latest = w.latest;
   stopped = w.stopped;
   part = part;
-  connection = some (record { area = c.area; session = d.session; line = line; out = d.out });
+  connection = Some (record { area = c.area; session = d.session; line = line; out = d.out });
   every = d.every;
 }
 
@@ -119,15 +116,15 @@ came_in R w c line b = settled w c (hand_all R b.messages (desk w c)) line b.lef
 
 -- ---- the host's tick: its point goes under way
 
-unfoldable pub tick_answers : Point → List Answer
-tick_answers point.Absent = []
-tick_answers (point.At t) = to_tick t ∷ []
+unfoldable pub tick_answers : Option ℕ → List Answer
+tick_answers None = []
+tick_answers (Some t) = to_tick t ∷ []
 
 -- ---- "An arrival brings the sender the oldest answer under way."
 
 -- "the latest commit point it received"
 abbrev pub latest_after : ℕ → Option Place → Answer → Option Place
-latest_after a l (to_tick t) = some (record { area = a; at = t })
+latest_after a l (to_tick t) = Some (record { area = a; at = t })
 latest_after a l (to_message k p) = l
 
 -- "It stops at its exit's point or at the refusal "finished"." Of messages only an exit is answered with a point.
@@ -139,7 +136,7 @@ unfoldable pub arrived : World → Connection → List Answer → World
 arrived w c [] = w
 arrived w c (a ∷ out) =
     with_connection w (latest_after c.area w.latest a) (stopped_after w.stopped a) w.part
-    (some (sending c out))
+    (Some (sending c out))
 
 -- ---- one event
 
@@ -158,13 +155,13 @@ module _ (R : Recording) where
   inside w c (bytes k) = came_in R w c (drop k c.line) (cut_all (w.part ++ take k c.line))
   inside w c tick =
       with_connection w w.latest w.stopped w.part
-      (some (sending c (c.out ++ tick_answers (session.tick c.session))))
+      (Some (sending c (c.out ++ tick_answers (session.tick c.session))))
   inside w c arrival = arrived w c c.out
-  inside w c break = with_connection w w.latest w.stopped [] none
+  inside w c break = with_connection w w.latest w.stopped [] None
 
   unfoldable pub happens : World → Option Connection → Event → World
-  happens w none e = outside w e
-  happens w (some c) e = inside w c e
+  happens w None e = outside w e
+  happens w (Some c) e = inside w c e
 
   unfoldable pub run : List Event → World → World
   run [] w = w
@@ -174,12 +171,12 @@ module _ (R : Recording) where
 
   -- "the sender lines up a valid hello or none, then its messages in any frames that give its records"
   unfoldable pub Proper : World → Option Connection → Event → Type 0
-  Proper w none (opening h bodies a) = w.stopped ≡ false → Lines bodies (with_hello h (messages R w.latest)) × Fresh w w.latest a
-  Proper w none (bytes k) = Unit {0}
-  Proper w none tick = Unit {0}
-  Proper w none arrival = Unit {0}
-  Proper w none break = Unit {0}
-  Proper w (some c) e = Unit {0}
+  Proper w None (opening h bodies a) = w.stopped ≡ false → Lines bodies (with_hello h (messages R w.latest)) × Fresh w w.latest a
+  Proper w None (bytes k) = Unit {0}
+  Proper w None tick = Unit {0}
+  Proper w None arrival = Unit {0}
+  Proper w None break = Unit {0}
+  Proper w (Some c) e = Unit {0}
 
   unfoldable pub AllProper : List Event → World → Type 0
   AllProper [] w = Unit {0}

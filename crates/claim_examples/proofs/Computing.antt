@@ -2,11 +2,11 @@
 -- line names, so that a proof by computing need not list them.
 use Rattle.wire_varint.specs.Varint.{varint_from}
 use Rattle.wire_schema.specs.Schema.{schema, kind_of, takes}
-use Rattle.wire_value.specs.Field.{fixed_at, number_payload, part_of, payload_at}
+use Rattle.wire_value.specs.Field.{fixed_at, number_read, part_of, as_number, as_fixed, as_part, payload_at}
 use Rattle.wire_varint.specs.Tag.{tag_fits, tag_of, tag_at}
-use Rattle.wire_check_field.specs.Check.{step_of, step_from, step_at}
+use Rattle.wire_check_field.specs.Check.{step_of, step_read, step_from, step_at}
 use Rattle.wire_check_field.specs.Check.{before, on_step, check_from, check_at}
-use Rattle.wire_fields.specs.Fields.{field_of, field_from, field_at, on_field, fields_from, fields_at, among}
+use Rattle.wire_fields.specs.Fields.{field_with, field_of, field_from, field_at, on_field, fields_from, fields_at, among}
 use Rattle.wire_fields.specs.Items as i
 use Rattle.wire_fields.specs.Items.{items, last_from, bytes_of, every_bytes}
 use Rattle.wire_message.specs.Signed.{signed, int64, int32, bool}
@@ -28,17 +28,17 @@ use Rattle.session.specs.Step as s
 
 -- varints, tags and what stands behind a tag
 unfoldable pub tagging : Unit {0}
-unfolding varint_from tag_fits tag_of tag_at fixed_at number_payload part_of payload_at
+unfolding varint_from tag_fits tag_of tag_at fixed_at number_read part_of as_number as_fixed as_part payload_at
 tagging = tt
 
 -- the check of a message
 unfoldable pub checking : Unit {0}
-unfolding schema kind_of takes step_of step_from step_at before on_step check_from check_at
+unfolding schema kind_of takes step_of step_read step_from step_at before on_step check_from check_at
 checking = tt
 
 -- a message's fields
 unfoldable pub listing : Unit {0}
-unfolding field_of field_from field_at on_field fields_from fields_at among items last_from bytes_of every_bytes i.number_of
+unfolding field_with field_of field_from field_at on_field fields_from fields_at among items last_from bytes_of every_bytes i.number_of
 listing = tt
 
 -- what messages mean

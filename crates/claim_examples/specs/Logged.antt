@@ -1,7 +1,6 @@
 -- `Agreement` (crates/claim_agreement/specs/Agreement.antt) speaks of something: there are lists of calls after which a session is in
 -- logging.
-use Rattle.std.specs.Prelude.{◌≡◌, List, [], ◌∷◌, ◌++◌, replicate}
-use Rattle.std.proofs.Math.Option.{none, some}
+use Rattle.std.specs.Prelude.{◌≡◌, List, [], ◌∷◌, ◌++◌, replicate, Some, None}
 use Rattle.session_turn.specs.declared.State.TheVariants.{Logging}
 use Rattle.claim_agreement.specs.Calls.{Call, message, break, after_all, begin}
 use Rattle.claim_examples.specs.Session.{accept, ttyout, restart}
@@ -18,5 +17,5 @@ pub record Logged : Type 0 where
   pub after_seven : (after_all (begin (replicate 160 0) 0) seven).session.state ≡ Logging
   pub after_restart : (after_all (begin (replicate 160 0) 0) resumed).session.state ≡ Logging
   -- a restart point holds then, until a record with a positive delay is stored
-  pub reached_again : (after_all (begin (replicate 160 0) 0) resumed).restart_point ≡ some 1000000000
-  pub passed_again : (after_all (begin (replicate 160 0) 0) (resumed ++ (message (ttyout 2) ∷ []))).restart_point ≡ none
+  pub reached_again : (after_all (begin (replicate 160 0) 0) resumed).restart_point ≡ Some 1000000000
+  pub passed_again : (after_all (begin (replicate 160 0) 0) (resumed ++ (message (ttyout 2) ∷ []))).restart_point ≡ None

@@ -1,11 +1,10 @@
 -- Document 01's ten marked examples, gathered under one statement: each is shown of the definitions.
-use Rattle.std.specs.Prelude.{ℕ, ◌≡◌, [], ◌∷◌, replicate}
+use Rattle.std.specs.Prelude.{ℕ, ◌≡◌, [], ◌∷◌, replicate, Some, None}
 use Rattle.base_laws.specs.Base.{part}
 use Rattle.wire_message.specs.Message.{Bytes}
 use Rattle.wire.specs.Examples.{ReadingExamples}
 use Rattle.file_format.specs.Record.{record_bytes}
 use Rattle.session.specs.Step.{Outcome, new_session, step, tick}
-use Rattle.session.specs.declared.Point.TheVariants as point
 
 -- ---- messages, as ClientMessages
 
@@ -73,11 +72,11 @@ pub record Examples : Type 0 where
       part first.area 71 84
       ≡ 0x70 ∷ 0x00 ∷ 0x00 ∷ 0x00 ∷ 0x10 ∷ 0x00 ∷ 0x00 ∷ 0x00 ∷ 0x00 ∷ 0x00 ∷ 0x02 ∷ 0x68 ∷ 0x69 ∷ []
   -- ticks after each of the four, then the exit
-  pub seven_first : tick first.session ≡ point.At 0
-  pub seven_second : tick second.session ≡ point.At 0
-  pub seven_third : tick third.session ≡ point.At 0
-  pub seven_fourth : tick fourth.session ≡ point.At 1000000000
-  pub seven_exit : (next fourth exit).point ≡ point.At 3000000000
+  pub seven_first : tick first.session ≡ Some 0
+  pub seven_second : tick second.session ≡ Some 0
+  pub seven_third : tick third.session ≡ Some 0
+  pub seven_fourth : tick fourth.session ≡ Some 1000000000
+  pub seven_exit : (next fourth exit).point ≡ Some 3000000000
   -- a restart at 1 keeps three timed records, of 13 bytes each after the accept's 71; at 2 it is refused
   pub eight_third : third.used ≡ 110
   pub eight_taken : restarted.refusal ≡ 0
@@ -88,5 +87,5 @@ pub record Examples : Type 0 where
   pub nine_taken : (next restarted (ttyout 2)).refusal ≡ 0
   pub nine_used : (next restarted (ttyout 2)).used ≡ 123
   -- no timed records
-  pub ten_tick : tick accepted.session ≡ point.Absent
-  pub ten_exit : (next accepted exit).point ≡ point.At 0
+  pub ten_tick : tick accepted.session ≡ None
+  pub ten_exit : (next accepted exit).point ≡ Some 0

@@ -1,9 +1,9 @@
 -- `Carried`: the world of a host in C is demand 3's, event after event.
+use Rattle.std.specs.Prelude.{Option, Some, None}
 use Prim.Native.Nat.{ℕ, zero, suc, ◌+◌, ◌<◌}
 use native.Mathlib.Omega.{arith}
 use mathlib.Core.Path.{◌≡◌, refl, ap, ◌∙◌}
 use mathlib.Core.Bool.{Bool, true, false}
-use mathlib.Core.Option.{Option, none, some}
 use mathlib.Core.List.{List, [], ◌∷◌, ◌++◌}
 use lib.ListN.{length, take, drop, replicate}
 use lib.Dec.{eqb}
@@ -30,8 +30,8 @@ use Rattle.claim_host.proofs.Messages.{cut_back, kept_back, kept_forty, tick_bac
 
 -- 40 bytes where there is a connection, and every used length of 64 bits
 abbrev FortyOf : Option CConnection → Type 0
-FortyOf none = Unit {0}
-FortyOf (some c) = length c.slice ≡ 40
+FortyOf None = Unit {0}
+FortyOf (Some c) = length c.slice ≡ 40
 
 record Fits (x : CWorld) : Type 0 where
   forty : FortyOf x.connection
@@ -127,13 +127,13 @@ module _ (R : Recording) (x : CWorld) (z : Fits x) where
 
   happens_same : (o : Option CConnection) (e : Event) → FortyOf o → seen_world (happens_c R x o e) ≡ happens R (seen_world x) (seen_option o) e
   unfolding happens_c happens
-  happens_same none e f = outside_same e
-  happens_same (some c) e f = inside_same c f e
+  happens_same None e f = outside_same e
+  happens_same (Some c) e f = inside_same c f e
 
   happens_fits : (o : Option CConnection) (e : Event) → FortyOf o → Fits (happens_c R x o e)
   unfolding happens_c
-  happens_fits none e f = outside_fits e
-  happens_fits (some c) e f = inside_fits c f e
+  happens_fits None e f = outside_fits e
+  happens_fits (Some c) e f = inside_fits c f e
 
 -- ---- all events
 

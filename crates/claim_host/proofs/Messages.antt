@@ -1,4 +1,5 @@
 -- One message at a host in C is one at demand 3's host: what it reads from numbers is what the definitions give.
+use Rattle.std.specs.Prelude.{Option, Some, None}
 use Prim.Native.Nat.{ℕ, ◌<◌}
 use native.Mathlib.Omega.{arith}
 use mathlib.Core.Path.{◌≡◌, refl, ap, ◌∙◌}
@@ -16,8 +17,6 @@ use Rattle.base_numbers.specs.Eight.{eights, number_at}
 use Rattle.base_numbers.proofs.Back.{first_back, third_back, fourth_back}
 use Rattle.session.specs.Step.{Outcome, step}
 use Rattle.session.specs.declared.Session.{Session}
-use Rattle.session.specs.declared.Point.{Point}
-use Rattle.session.specs.declared.Point.TheVariants as point
 use Rattle.session_bytes.specs.Saved.{state_number, session_of, kept}
 use Rattle.session_bytes.specs.Sound.{Sound}
 use Rattle.session_bytes.proofs.Slices.{laid_whole}
@@ -45,22 +44,22 @@ pub kept_forty : (se : Session) (slice : Bytes) → length slice ≡ 40 → leng
 unfolding kept
 kept_forty se slice l = rw (eq-eqb (length slice) 40 l) (keeping.forty se)
 
-pub tick_back : (p : Point) → PointSound p → tick_from (tick_number p) ≡ p
+pub tick_back : (p : Option ℕ) → PointSound p → tick_from (tick_number p) ≡ p
 unfolding tick_from tick_number
-tick_back point.Absent h = refl
-tick_back (point.At t) h = rw (ne_eqb t 18446744073709551615 (λ e. omega arith))
+tick_back None h = refl
+tick_back (Some t) h = rw (ne_eqb t 18446744073709551615 (λ e. omega arith))
 
 -- ---- the five numbers
 
-point_back : (p : Point) (n m : ℕ) → n ≡ has_point p → m ≡ point_number p → pick (eqb n 0) point.Absent (point.At m) ≡ p
+point_back : (p : Option ℕ) (n m : ℕ) → n ≡ has_point p → m ≡ point_number p → pick (eqb n 0) None (Some m) ≡ p
 unfolding has_point point_number
-point_back point.Absent n m e f = rw e
-point_back (point.At t) n m e f = rw (e, f)
+point_back None n m e f = rw e
+point_back (Some t) n m e f = rw (e, f)
 
-has_most : (p : Point) → has_point p < 18446744073709551616
+has_most : (p : Option ℕ) → has_point p < 18446744073709551616
 unfolding has_point
-has_most point.Absent = omega arith
-has_most (point.At t) = omega arith
+has_most None = omega arith
+has_most (Some t) = omega arith
 
 module _ (d : CDesk) (z : Sized d) (s : Bytes) where
   se : Session
@@ -85,13 +84,13 @@ module _ (d : CDesk) (z : Sized d) (s : Bytes) where
   unfolding o se point_number
   number_most = go o.point (told se d.area d.used s).point_told
     where
-      at_same : {a b : ℕ} → point.At a ≡ point.At b → a ≡ b
+      at_same : {a b : ℕ} → Some a ≡ Some b → a ≡ b
       at_same q = cc
 
-      go : (p : Point) → (p ≡ point.Absent) ⊎ (p ≡ point.At se.total) → point_number p < 18446744073709551616
-      go point.Absent e = omega arith
-      go (point.At t) (inl e) = let y : ◌≡◌ {A = ℕ} 0 1 = cc in absurd (omega arith)
-      go (point.At t) (inr e) = omega (arith, at_same e, (loaded_sound d.slice).total)
+      go : (p : Option ℕ) → (p ≡ None) ⊎ (p ≡ Some se.total) → point_number p < 18446744073709551616
+      go None e = omega arith
+      go (Some t) (inl e) = let y : ◌≡◌ {A = ℕ} 0 1 = cc in absurd (omega arith)
+      go (Some t) (inr e) = omega (arith, at_same e, (loaded_sound d.slice).total)
 
   abbrev numbers : Bytes
   numbers = eights (o.used ∷ o.key ∷ has_point o.point ∷ point_number o.point ∷ state_number o.session.state ∷ [])

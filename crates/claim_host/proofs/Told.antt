@@ -1,4 +1,5 @@
 -- What a step answers in numbers: the used length is the one that was handed in or the session's, a point is the session's total.
+use Rattle.std.specs.Prelude.{Option, Some, None}
 use Prim.Native.Nat.{ℕ}
 use mathlib.Core.Path.{◌≡◌, refl}
 use mathlib.Core.Logic.{◌⊎◌, inl, inr}
@@ -16,22 +17,19 @@ use Rattle.session_turn.specs.Turn.{turn}
 use Rattle.session.specs.Step.{Outcome, moment, lengths_fit, growth_refusal, room_for, timed, entries_first, accept_stored, on_accept, on_reject, exit_stored, on_exit, resumed, by_kind, of_records, on_restart, act, in_turn, on_reading, step}
 use Rattle.session_turn.specs.declared.State.{State}
 use Rattle.session_turn.specs.declared.State.TheVariants.{New, Greeted, Logging, EventsOnly, Closed}
-use Rattle.session_turn.specs.declared.Turn.{Turn}
-use Rattle.session_turn.specs.declared.Turn.TheVariants.{To, NotNow}
 use Rattle.session.specs.declared.Session.{Session}
-use Rattle.session.specs.declared.Point.TheVariants as point
 
 module _ (se : Session) (area : Bytes) (used : ℕ) where
   pub record Told (o : Outcome) : Type 0 where
     pub used_told : (o.used ≡ used) ⊎ (o.used ≡ o.session.used)
-    pub point_told : (o.point ≡ point.Absent) ⊎ (o.point ≡ point.At se.total)
+    pub point_told : (o.point ≡ None) ⊎ (o.point ≡ Some se.total)
 
   -- the used length as it was
-  same : (o : Outcome) → o.used ≡ used → o.point ≡ point.Absent → Told o
+  same : (o : Outcome) → o.used ≡ used → o.point ≡ None → Told o
   same o u p = record { used_told = inl u; point_told = inl p }
 
   -- the session's
-  own : (o : Outcome) → o.used ≡ o.session.used → (o.point ≡ point.Absent) ⊎ (o.point ≡ point.At se.total) → Told o
+  own : (o : Outcome) → o.used ≡ o.session.used → (o.point ≡ None) ⊎ (o.point ≡ Some se.total) → Told o
   own o u p = record { used_told = inr u; point_told = p }
 
   of_timed : (fits : Bool) (r : Record) → Told (timed se area used fits r)
@@ -106,10 +104,10 @@ module _ (se : Session) (area : Bytes) (used : ℕ) where
   of_act st d (suspend_event s) = of_timed (suspend_fits s) _
   of_act st d (hello_msg h) = same _ refl refl
 
-  of_turn : (u : Turn) (d : Bytes) (c : Client) → Told (in_turn se area used u d c)
+  of_turn : (u : Option State) (d : Bytes) (c : Client) → Told (in_turn se area used u d c)
   unfolding in_turn
-  of_turn (To st) d c = of_act st d c
-  of_turn NotNow d c = same _ refl refl
+  of_turn (Some st) d c = of_act st d c
+  of_turn None d c = same _ refl refl
 
   of_reading : (d : Bytes) (r : Reading Client) → Told (on_reading se area used d r)
   unfolding on_reading

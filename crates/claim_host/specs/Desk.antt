@@ -1,6 +1,6 @@
 -- Demand 3's host in C: it keeps a session as 40 bytes and reads every answer from numbers. Wherever crates/claim_delivery/specs/Host.antt
 -- takes what a definition gives, this takes what a function of sudolog.h returns.
-use Rattle.std.specs.Prelude.{ℕ, Bool, List, [], ◌∷◌, ◌++◌, take, replicate, eqb}
+use Rattle.std.specs.Prelude.{ℕ, Bool, List, [], ◌∷◌, ◌++◌, take, replicate, eqb, Option, Some, None}
 use Rattle.base_laws.specs.Base.{pick}
 use Rattle.base_numbers.specs.Eight.{number_at}
 use Rattle.wire_frame.specs.declared.Cut.{Cut}
@@ -8,8 +8,6 @@ use Rattle.wire_frame.specs.declared.Cut.TheVariants.{Wait, Frame, Refused}
 use Rattle.wire_message.specs.Message.{Bytes}
 use Rattle.wire.specs.Read.{client_message}
 use Rattle.file_format.specs.File.{file_kind}
-use Rattle.session.specs.declared.Point.{Point}
-use Rattle.session.specs.declared.Point.TheVariants as point
 use Rattle.session_bytes.specs.Saved.{session_of}
 use Rattle.c_session.specs.Session.{message_answer, message_slice, message_area, message_out}
 use Rattle.claim_delivery.specs.Recording.{Recording}
@@ -25,12 +23,12 @@ cut_from state count = pick (eqb state 0) (Frame count) (pick (eqb state 1) Refu
 abbrev pub used_in : Bytes → ℕ
 used_in out = number_at out 0
 
-unfoldable pub point_in : Bytes → Point
-point_in out = pick (eqb (number_at out 16) 0) point.Absent (point.At (number_at out 24))
+unfoldable pub point_in : Bytes → Option ℕ
+point_in out = pick (eqb (number_at out 16) 0) None (Some (number_at out 24))
 
 -- the point, from sudolog_session_tick
-unfoldable pub tick_from : ℕ → Point
-tick_from n = pick (eqb n 18446744073709551615) point.Absent (point.At n)
+unfoldable pub tick_from : ℕ → Option ℕ
+tick_from n = pick (eqb n 18446744073709551615) None (Some n)
 
 -- ---- one whole message
 

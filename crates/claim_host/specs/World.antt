@@ -1,7 +1,6 @@
 -- Demand 3's list with a host in C: crates/claim_delivery/specs/World.antt, with 40 bytes in the session's place and the functions of sudolog.h
 -- in the place of the definitions.
-use Rattle.std.specs.Prelude.{ℕ, zero, suc, Bool, false, List, [], ◌∷◌, ◌++◌, length, take, drop, replicate}
-use Rattle.std.proofs.Math.Option.{Option, none, some}
+use Rattle.std.specs.Prelude.{ℕ, zero, suc, Bool, false, List, [], ◌∷◌, ◌++◌, length, take, drop, replicate, Option, Some, None}
 use Rattle.base_laws.specs.Base.{pick}
 use Rattle.wire_frame.specs.Frame.{cut_of, frame_state, count_of}
 use Rattle.wire_message.specs.Message.{Bytes}
@@ -39,8 +38,8 @@ abbrev pub seen_connection : CConnection → Connection
 seen_connection c = record { area = c.area; session = session_of c.slice; line = c.line; out = c.out }
 
 abbrev pub seen_option : Option CConnection → Option Connection
-seen_option none = none
-seen_option (some c) = some (seen_connection c)
+seen_option None = None
+seen_option (Some c) = Some (seen_connection c)
 
 abbrev pub seen_world : CWorld → World
 seen_world x = record {
@@ -63,10 +62,10 @@ fresh_c every blank = record {
   used = λ a. 0;
   book = λ a. 0;
   restarts = [];
-  latest = none;
+  latest = None;
   stopped = false;
   part = [];
-  connection = none;
+  connection = None;
   every = every;
 }
 
@@ -86,7 +85,7 @@ with x latest stopped part c = record {
 -- sudolog_session_open, in 40 bytes
 unfoldable pub opened_c : CWorld → List Bytes → ℕ → CWorld
 opened_c x bodies a =
-    with x x.latest x.stopped x.part (some (record { area = area_of x.latest a; slice = kept new_session (replicate 40 0); line = frames bodies; out = [] }))
+    with x x.latest x.stopped x.part (Some (record { area = area_of x.latest a; slice = kept new_session (replicate 40 0); line = frames bodies; out = [] }))
 
 -- sudolog_frame_state and sudolog_frame_count
 unfoldable pub drain_c : ℕ → Bytes → Drained
@@ -105,7 +104,7 @@ settled_c x c d line part = record {
   latest = x.latest;
   stopped = x.stopped;
   part = part;
-  connection = some (record { area = c.area; slice = d.slice; line = line; out = d.out });
+  connection = Some (record { area = c.area; slice = d.slice; line = line; out = d.out });
   every = d.every;
 }
 
@@ -115,7 +114,7 @@ came_in_c R x c line b = settled_c x c (hand_all_c R b.messages (desk_c x c)) li
 unfoldable pub arrived_c : CWorld → CConnection → List Answer → CWorld
 arrived_c x c [] = x
 arrived_c x c (a ∷ out) =
-    with x (latest_after c.area x.latest a) (stopped_after x.stopped a) x.part (some (record { area = c.area; slice = c.slice; line = c.line; out = out }))
+    with x (latest_after c.area x.latest a) (stopped_after x.stopped a) x.part (Some (record { area = c.area; slice = c.slice; line = c.line; out = out }))
 
 unfoldable pub outside_c : CWorld → Event → CWorld
 outside_c x (w.opening h bodies a) = pick x.stopped x (opened_c x bodies a)
@@ -132,13 +131,13 @@ module _ (R : Recording) where
   -- sudolog_session_tick
   inside_c x c w.tick =
       with x x.latest x.stopped x.part
-      (some (record { area = c.area; slice = c.slice; line = c.line; out = c.out ++ tick_answers (tick_from (tick_number (tick (session_of c.slice)))) }))
+      (Some (record { area = c.area; slice = c.slice; line = c.line; out = c.out ++ tick_answers (tick_from (tick_number (tick (session_of c.slice)))) }))
   inside_c x c w.arrival = arrived_c x c c.out
-  inside_c x c w.break = with x x.latest x.stopped [] none
+  inside_c x c w.break = with x x.latest x.stopped [] None
 
   unfoldable pub happens_c : CWorld → Option CConnection → Event → CWorld
-  happens_c x none e = outside_c x e
-  happens_c x (some c) e = inside_c x c e
+  happens_c x None e = outside_c x e
+  happens_c x (Some c) e = inside_c x c e
 
   unfoldable pub run_c : List Event → CWorld → CWorld
   run_c [] x = x

@@ -8,15 +8,15 @@ use lib.ListN.{length, take, drop}
 use lib.Seq.{take_at, drop_at}
 use lib.Dec.{T, ltb, leb, eqb}
 use borrow.Author.Tests.{leb-true, le-leb, ltb-false, eqb-true, eqb-false, eq-eqb, ne_eqb}
+use Rattle.std.specs.Prelude.{Result, Ok, Err}
 use Rattle.base_laws.specs.Base.{pick, both, part, splice}
 use Rattle.base_laws.proofs.Order.{both_true}
 use Rattle.base_laws.proofs.Table.{below}
 use Rattle.wire_frame.specs.Frame.{cut_of}
 use Rattle.wire_frame.specs.declared.Cut.TheVariants as cut
+use Rattle.wire_types.specs.declared.Refused.{Refused}
 use Rattle.wire_schema.specs.Schema.{schema, kind_of}
 use Rattle.wire_check_field.specs.Check.{check_of}
-use Rattle.wire_check_field.specs.declared.Checked.{Checked}
-use Rattle.wire_check_field.specs.declared.Checked.TheVariants as checked
 use Rattle.wire_fields.specs.Fields.{among}
 use Rattle.wire_fields.specs.Items as i
 use Rattle.wire_fields.specs.Items.{Item, items, last_from, last_item}
@@ -177,10 +177,10 @@ body_fits_lem (d.client_hello x) p h = refl
 -- ---- a reader by itself
 
 -- a value is read where the check finds nothing to refuse
-value_fine : {A : Type 0} (k : Checked) (r : Reading A) (v : A) → after k r ≡ value v → k ≡ checked.Fine
+value_fine : {A : Type 0} (k : Result Unit Refused) (r : Reading A) (v : A) → after k r ≡ value v → k ≡ Ok tt
 unfolding after
-value_fine checked.Fine r v q = refl
-value_fine (checked.Refused n p) r v q = let z : ◌≡◌ {A = ℕ} 0 1 = cc in absurd (omega arith)
+value_fine (Ok u) r v q = refl
+value_fine (Err e) r v q = let z : ◌≡◌ {A = ℕ} 0 1 = cc in absurd (omega arith)
 
 -- the only field is the last one of its numbers
 only_field : (hi f : ℕ) (x : Bytes) → 1 ≤ f → f ≤ hi → hi < 2 ^ 29 → Short (encode_all (bytes f x ∷ []))
@@ -190,13 +190,13 @@ only_field hi f x h k b s =
     ap (last_item 1 hi) (round_trip.fields (bytes f x ∷ []) ((h, omega arith), tt) s) ∙ rw (le-leb 1 f h, le-leb f hi k)
 
 -- no refusal of a ClientMessage whose member is in range
-client_number_lem : (f : ℕ) (x : Bytes) → 1 ≤ f → f ≤ 13 → Short (encode_all (bytes f x ∷ [])) → check_of 0 (encode_all (bytes f x ∷ [])) ≡ checked.Fine
+client_number_lem : (f : ℕ) (x : Bytes) → 1 ≤ f → f ≤ 13 → Short (encode_all (bytes f x ∷ [])) → check_of 0 (encode_all (bytes f x ∷ [])) ≡ Ok tt
     → body_fits (kind_of 0 f - 16) (items x) ≡ true → read_number 0 (encode_all (bytes f x ∷ [])) ≡ 0
 unfolding read_number check_number no_member is_absent in_range client_fits
 client_number_lem f x h k s c b = rw (c, only_field 13 f x h k (omega arith) s, b)
 
 -- no refusal of a message that is no ClientMessage and no ServerMessage
-body_number : (k : ℕ) (s : Bytes) → (k ≡ 0 → ⊥) → (k ≡ 14 → ⊥) → check_of k s ≡ checked.Fine → body_fits k (items s) ≡ true → read_number k s ≡ 0
+body_number : (k : ℕ) (s : Bytes) → (k ≡ 0 → ⊥) → (k ≡ 14 → ⊥) → check_of k s ≡ Ok tt → body_fits k (items s) ≡ true → read_number k s ≡ 0
 unfolding read_number check_number no_member in_range
 body_number k s h n c b = rw (c, ne_eqb k 0 h, ne_eqb k 14 n, b)
 
@@ -235,7 +235,7 @@ client c n t =
     let q = wrapped_is f (client_pieces c) b.0 in
     let s : Short (encode_all (bytes f x ∷ [])) = rw q at (short_of (written_client c) short) in
     let r = round_trip.client c (p, short_of (written_client c) short) in
-    let fine : check_of 0 (encode_all (bytes f x ∷ [])) ≡ checked.Fine = rw q at (value_fine (check_of 0 (written_client c)) _ (meant_client c) r) in
+    let fine : check_of 0 (encode_all (bytes f x ∷ [])) ≡ Ok tt = rw q at (value_fine (check_of 0 (written_client c)) _ (meant_client c) r) in
     let inside : body_fits (kind_of 0 f - 16) (items x) ≡ true = body_fits_lem c p (back.held_short [] [] f x s) ∙ meant_fits_lem f c k.run_taken k.in_range_lem in
     record { no_refusal = ap (read_number 0) q ∙ client_number_lem f x b.0 b.1 s fine inside; means = r }
 
@@ -258,7 +258,7 @@ client_alone c n t =
 
 -- ---- a ServerMessage
 
-server_number : (f : ℕ) (x : Bytes) → 1 ≤ f → f ≤ 5 → Short (encode_all (bytes f x ∷ [])) → check_of 14 (encode_all (bytes f x ∷ [])) ≡ checked.Fine
+server_number : (f : ℕ) (x : Bytes) → 1 ≤ f → f ≤ 5 → Short (encode_all (bytes f x ∷ [])) → check_of 14 (encode_all (bytes f x ∷ [])) ≡ Ok tt
     → pick (eqb f 2) (l.moment_fits (m.time_spec (items x))) true ≡ true → read_number 14 (encode_all (bytes f x ∷ [])) ≡ 0
 unfolding read_number check_number no_member is_absent in_range server_fits
 server_number f x h k s c b = rw (c, only_field 5 f x h k (omega arith) s, b)
@@ -270,7 +270,7 @@ unfolding server_message
 server c f x p q h k b inside =
     let s : Short (encode_all (bytes f x ∷ [])) = rw q at (short_of (written_server c) b) in
     let r = round_trip.server c (p, short_of (written_server c) b) in
-    let fine : check_of 14 (encode_all (bytes f x ∷ [])) ≡ checked.Fine = rw q at (value_fine (check_of 14 (written_server c)) _ (meant_server c) r) in
+    let fine : check_of 14 (encode_all (bytes f x ∷ [])) ≡ Ok tt = rw q at (value_fine (check_of 14 (written_server c)) _ (meant_server c) r) in
     record { no_refusal = ap (read_number 14) q ∙ server_number f x h k s fine inside; means = r }
 
 server_hello_lem : (x y joined : Bytes) (ends : List ℕ) (e : Bool)

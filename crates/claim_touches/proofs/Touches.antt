@@ -1,4 +1,5 @@
 -- `Touches`, case after case of the session's step.
+use Rattle.std.specs.Prelude.{Option, Some, None}
 use Prim.Native.Nat.{ℕ, ◌+◌, ◌-◌, ◌≤◌}
 use native.Mathlib.Omega.{arith}
 use mathlib.Core.Path.{◌≡◌, refl, sym, ap, ◌∙◌}
@@ -20,8 +21,6 @@ use Rattle.session_turn.specs.declared.State.{State}
 use Rattle.session_turn.specs.declared.State.TheVariants.{New, Greeted, Logging, EventsOnly, Closed}
 use Rattle.session.specs.Step.{Outcome, moment, lengths_fit, growth_refusal, at_mark, room_for, record_for, timed, entries_first, accept_stored, on_accept, on_reject, exit_stored, on_exit, resumed, by_kind, of_records, on_restart, act, in_turn, on_reading, step}
 use Rattle.session.specs.declared.Session.{Session}
-use Rattle.session.specs.declared.Mark.{Mark}
-use Rattle.session.specs.declared.Mark.TheVariants as mark
 use Rattle.file_format.proofs.Areas.{within_area_lem}
 use Rattle.session.proofs.Lengths.{lengths}
 use Rattle.claim_values.specs.Values.{TimedRecord, io, window, suspend, timed_member, stored_for, timed_in_range}
@@ -204,14 +203,14 @@ module _ (se : Session) (area : Bytes) (used : ℕ) (s : Bytes) where
 
 module _ (se : Session) where
   Eleven : ℕ → Type 0
-  Eleven n = (n ≡ 11 → se.mark ≡ mark.At se.total) × (se.mark ≡ mark.At se.total → n ≡ 11)
+  Eleven n = (n ≡ 11 → se.mark ≡ Some se.total) × (se.mark ≡ Some se.total → n ≡ 11)
 
-  at_mark_lem : (m : Mark) → (at_mark m se.total ≡ true → m ≡ mark.At se.total) × (m ≡ mark.At se.total → at_mark m se.total ≡ true)
+  at_mark_lem : (m : Option ℕ) → (at_mark m se.total ≡ true → m ≡ Some se.total) × (m ≡ Some se.total → at_mark m se.total ≡ true)
   unfolding at_mark
-  at_mark_lem mark.Nothing = (λ e. let z : ◌≡◌ {A = ℕ} 0 1 = cc in absurd (omega arith), λ e. let z : ◌≡◌ {A = ℕ} 0 1 = cc in absurd (omega arith))
-  at_mark_lem (mark.At t) = (λ e. ap mark.At (sym (eqb-true se.total t e)), λ e. eq-eqb se.total t (sym (same e)))
+  at_mark_lem None = (λ e. let z : ◌≡◌ {A = ℕ} 0 1 = cc in absurd (omega arith), λ e. let z : ◌≡◌ {A = ℕ} 0 1 = cc in absurd (omega arith))
+  at_mark_lem (Some t) = (λ e. ap Some (sym (eqb-true se.total t e)), λ e. eq-eqb se.total t (sym (same e)))
     where
-      same : {a b : ℕ} → mark.At a ≡ mark.At b → a ≡ b
+      same : {a b : ℕ} → Some a ≡ Some b → a ≡ b
       same q = cc
 
   -- ---- by the growth's refusal n

@@ -1,6 +1,6 @@
 -- What one message may touch: over every session, area, used length and message, whoever sends it and whatever the host did before. The
 -- request: "Every message accepted for storing adds exactly the record that document 01 gives"; "Nothing else is written."
-use Rattle.std.specs.Prelude.{ℕ, ◌+◌, ◌≤◌, ◌≡◌, ◌⊎◌, true, List, [], ◌∷◌, length, take}
+use Rattle.std.specs.Prelude.{ℕ, ◌+◌, ◌≤◌, ◌≡◌, ◌⊎◌, true, List, [], ◌∷◌, length, take, Some}
 use Rattle.base_laws.specs.Base.{splice}
 use Rattle.wire_message.specs.Message.{Bytes, Accept, Restart, Client, accept_msg, reject_msg, exit_msg, restart_msg, alert_msg, io_buf, winsize_event, suspend_event, hello_msg}
 use Rattle.wire.specs.Read.{value, client_message, received}
@@ -10,7 +10,6 @@ use Rattle.session_turn.specs.declared.State.{State}
 use Rattle.session_turn.specs.declared.State.TheVariants.{New, Greeted, Logging}
 use Rattle.session.specs.Step.{Outcome, moment, record_for, lengths_fit, step}
 use Rattle.session.specs.declared.Session.{Session}
-use Rattle.session.specs.declared.Mark.TheVariants as mark
 use Rattle.claim_values.specs.Values.{TimedRecord, timed_member, stored_for, timed_in_range}
 
 -- before an accept or a restart
@@ -62,4 +61,4 @@ pub record Touches : Type 0 where
   pub touches : (se : Session) (area : Bytes) (used : ℕ) (s : Bytes) → Touched se area used s (step se area used s)
   -- 11: "a timed record with delay zero is refused while the present total equals such a restart point", and only then
   pub zero_refused : (se : Session) (area : Bytes) (used : ℕ) (s : Bytes) (t : TimedRecord) → ZeroDelay se area used s t
-      → ((step se area used s).refusal ≡ 11 → se.mark ≡ mark.At se.total) × (se.mark ≡ mark.At se.total → (step se area used s).refusal ≡ 11)
+      → ((step se area used s).refusal ≡ 11 → se.mark ≡ Some se.total) × (se.mark ≡ Some se.total → (step se area used s).refusal ≡ 11)

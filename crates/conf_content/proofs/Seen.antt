@@ -2,6 +2,7 @@
 use mathlib.Core.Path.{◌≡◌, refl, sym, ap, ◌∙◌}
 use mathlib.Core.Bool.{Bool, true, false}
 use mathlib.Core.List.{[], ◌∷◌, ◌++◌}
+use Rattle.std.specs.Prelude.{Some}
 use Prim.Native.Nat.{ℕ, ◌+◌, ◌-◌}
 use native.Mathlib.Omega.{arith}
 use lib.ListN.{length, length-append}
@@ -10,7 +11,7 @@ use borrow.Author.Tests.{eq-eqb, ne_eqb}
 use Rattle.base_laws.specs.Base.{pick, both}
 use Rattle.conf_lines.specs.Lines.{Bytes, is_nil, is_blank, lead, trail}
 use Rattle.conf_content.specs.Content.{has, before, behind}
-use Rattle.conf_content.specs.Shape.{first_of, last_of, measure_of, see}
+use Rattle.conf_content.specs.Shape.{first_of, last_of, measure_of, equals_with, see}
 use Rattle.conf_lines.proofs.Steps.{cases}
 use Rattle.conf_content.proofs.Ends.{both_false, Ends, ends_value, length_ends}
 
@@ -93,13 +94,7 @@ at_end : (l v : Bytes) → Ends v l → eqb (length l - length v) (length l) ≡
 at_end l [] h = eq-eqb (length l - 0) (length l) (omega arith)
 at_end l (x ∷ v) h = ne_eqb (length l - length (x ∷ v)) (length l) (λ e. omega (arith, e, length_ends (x ∷ v) l h))
 
--- ---- the key's length and the value's place
-
-key_snoc : (l : Bytes) (b : ℕ) → pick (has 61 (l ++ b ∷ [])) (length (trail (before 61 (l ++ b ∷ [])))) 0
-    ≡ pick (has 61 l) (pick (has 61 l) (length (trail (before 61 l))) 0) (pick (eqb b 61) (length (trail l)) (pick (has 61 l) (length (trail (before 61 l))) 0))
-key_snoc l b =
-    rw (has_snoc l b, before_snoc l b)
-    (cases (has 61 l) (λ e. rw e) (λ e. rw e (cases (eqb b 61) (λ f. rw f) (λ f. rw f))))
+-- ---- the first `=`
 
 rest_snoc : (t : Bool) (n k : ℕ) → n + 1 - pick t 0 (k + 1) ≡ pick t (n + 1) (n - k)
 rest_snoc true n k = omega arith
@@ -113,17 +108,16 @@ value_in l b =
     ∙ rest_snoc (both (is_blank b) (is_nil v)) (length l) (length v)
     ∙ ap (λ (t : Bool). pick (both (is_blank b) t) (length l + 1) (length l - length v)) (sym (at_end l v (ends_value l)))
 
-value_snoc : (l : Bytes) (b : ℕ) → pick (has 61 (l ++ b ∷ [])) (length (l ++ b ∷ []) - length (lead (behind 61 (l ++ b ∷ [])))) 0
-    ≡ pick (has 61 l)
-    (pick (both (is_blank b) (eqb (pick (has 61 l) (length l - length (lead (behind 61 l))) 0) (length l)))
-    (length l + 1) (pick (has 61 l) (length l - length (lead (behind 61 l))) 0))
-    (pick (eqb b 61) (length l + 1) (pick (has 61 l) (length l - length (lead (behind 61 l))) 0))
-unfolding lead
-value_snoc l b =
-    rw (has_snoc l b, behind_snoc l b, length_snoc l b)
+equals_snoc : (l : Bytes) (b : ℕ) → (measure_of (l ++ b ∷ [])).equals ≡ equals_with (measure_of l).equals b (length l) (length (trail l))
+unfolding measure_of lead
+equals_snoc l b =
+    rw (has_snoc l b, before_snoc l b, behind_snoc l b, length_snoc l b)
     (cases (has 61 l)
-    (λ e. rw e (value_in l b))
-    (λ e. rw e (cases (eqb b 61) (λ f. rw f (omega arith)) (λ f. rw f))))
+    (λ e. rw e (ap (λ (v : ℕ). Some (record { key = length (trail (before 61 l)); value = v })) (value_in l b)))
+    (λ e. rw e
+    (cases (eqb b 61)
+    (λ f. rw f (let n : length l + 1 - 0 ≡ length l + 1 = omega arith in ap (λ (v : ℕ). Some (record { key = length (trail l); value = v })) n))
+    (λ f. rw f))))
 
 pub seen : (l : Bytes) (b : ℕ) → measure_of (l ++ b ∷ []) ≡ see (measure_of l) b
 unfolding measure_of see
@@ -132,7 +126,5 @@ seen l b i = record {
   length = length_trail_snoc l b i;
   first = first_snoc l b i;
   last = last_trail_snoc l b i;
-  equals = has_snoc l b i;
-  key = key_snoc l b i;
-  value = value_snoc l b i;
+  equals = equals_snoc l b i;
 }

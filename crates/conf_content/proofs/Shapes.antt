@@ -13,8 +13,11 @@ use Rattle.conf_lines.specs.Lines.{Bytes, lead, trail}
 use Rattle.conf_lines.specs.Span.{joined_from}
 use Rattle.conf_content.specs.Content.{has, before, behind, last_is, but_last, empty, section, setting, bad, header, keyed, assignment, content_of}
 use Rattle.conf_content.specs.Shape.{first_of, last_of, measure_of, Shaped}
+use Rattle.conf_content.specs.declared.Equals.{Equals}
 use Rattle.conf_content.specs.declared.Measure.{Measure}
-use Rattle.conf_content.specs.declared.Shape.TheVariants as shape
+use Rattle.conf_content.specs.declared.Shape.TheVariants.{Header, Setting}
+use Rattle.conf_content.specs.declared.Malformed.{Malformed}
+use Rattle.std.specs.Prelude.{Some, None, Ok, Err}
 use Rattle.conf_content.proofs.Ends.{take_trail, length_trail, trail_cons, trail_append, has_trail, before_trail, behind_trail, lead_trail, lead_stays, Ends, ends_value, length_ends, drop_ends, starts_key, length_starts, take_starts, last_is_lem, but_last_lem}
 
 -- ---- nothing
@@ -138,6 +141,16 @@ unfolding keyed
 keyed_none [] v h = refl
 keyed_none (b ∷ k) v h = absurd (omega (arith, h))
 
+-- ---- the first `=`
+
+no_one : (t : Bool) (x : Equals) → pick t (Some x) None ≡ None → t ≡ false
+no_one true x e = cc
+no_one false x e = refl
+
+one : (t : Bool) (x q : Equals) → pick t (Some x) None ≡ Some q → (t ≡ true) × (q ≡ x)
+one true x q e = (refl, cc)
+one false x q e = let z : ◌≡◌ {A = ℕ} 0 1 = cc in absurd (omega arith)
+
 -- ---- the shapes
 
 module _ (s : Bytes) (at : ℕ) (m : Measure) (e : m ≡ measure_of (joined_from s at)) where
@@ -156,33 +169,25 @@ module _ (s : Bytes) (at : ℕ) (m : Measure) (e : m ≡ measure_of (joined_from
   unfolding measure_of
   m_last = ap (λ (n : Measure). n.last) e
 
-  m_equals : m.equals ≡ has 61 l
+  m_equals : m.equals ≡ pick (has 61 l) (Some (record { key = key_length l; value = value_place l })) None
   unfolding measure_of
   m_equals = ap (λ (n : Measure). n.equals) e
 
-  m_key : m.equals ≡ true → m.key ≡ key_length l
-  unfolding measure_of
-  m_key h = ap (λ (n : Measure). n.key) e ∙ ap (λ (t : Bool). pick t (key_length l) 0) (sym m_equals ∙ h)
-
-  m_value : m.equals ≡ true → m.value ≡ value_place l
-  unfolding measure_of
-  m_value h = ap (λ (n : Measure). n.value) e ∙ ap (λ (t : Bool). pick t (value_place l) 0) (sym m_equals ∙ h)
-
-  pub shaped_empty : m.length ≡ 0 → Shaped s at shape.Empty
+  pub shaped_empty : m.length ≡ 0 → Shaped s at (Ok None)
   shaped_empty h = record { content = nothing_left l (sym m_length ∙ h); parts = tt }
 
   module _ (f : m.first ≡ 91) (h : 0 < m.length) where
     pub shaped_header : m.last ≡ 93 → 2 ≤ m.length → (a : ℕ) → joined_from s a ≡ drop 1 l
-        → Shaped s at (shape.Header (record { at = a; length = m.length - 2 }))
+        → Shaped s at (Ok (Some (Header (record { at = a; length = m.length - 2 }))))
     shaped_header z n a d = record {
       content = rw (d, m_length) (header_closed l (sym m_first ∙ f) (sym m_last ∙ z) (omega (arith, m_length)));
       parts = omega (arith, ap length d, length-drop 1 l, length_trail l, m_length);
     }
 
-    pub shaped_short : m.length < 2 → Shaped s at shape.Bad
+    pub shaped_short : m.length < 2 → {e : Malformed} → Shaped s at (Err e)
     shaped_short n = record { content = header_short l (sym m_first ∙ f) (omega (arith, m_length)) (omega (arith, m_length)); parts = tt }
 
-    pub shaped_open : (m.last ≡ 93 → ⊥) → Shaped s at shape.Bad
+    pub shaped_open : (m.last ≡ 93 → ⊥) → {e : Malformed} → Shaped s at (Err e)
     shaped_open z = record { content = header_other l (sym m_first ∙ f) (omega (arith, m_length)) (λ y. z (m_last ∙ y)); parts = tt }
 
   module _ (f : eqb m.first 91 ≡ false) (h : 0 < m.length) where
@@ -192,27 +197,36 @@ module _ (s : Bytes) (at : ℕ) (m : Measure) (e : m ≡ measure_of (joined_from
     some_bytes : 0 < length (trail l)
     some_bytes = omega (arith, m_length)
 
-    pub shaped_no_equals : m.equals ≡ false → Shaped s at shape.Bad
-    shaped_no_equals q = record { content = assigned_none l first_other some_bytes (sym m_equals ∙ q); parts = tt }
+    pub shaped_no_equals : m.equals ≡ None → {r : Malformed} → Shaped s at (Err r)
+    shaped_no_equals q = record { content = assigned_none l first_other some_bytes (no_one _ _ (sym m_equals ∙ q)); parts = tt }
 
-    module _ (q : m.equals ≡ true) where
+    module _ {q : Equals} (x : m.equals ≡ Some q) where
+      found : (has 61 l ≡ true) × (q ≡ record { key = key_length l; value = value_place l })
+      found = one _ _ _ (sym m_equals ∙ x)
+
+      m_key : q.key ≡ key_length l
+      m_key = ap (λ (y : Equals). y.key) found.1
+
+      m_value : q.value ≡ value_place l
+      m_value = ap (λ (y : Equals). y.value) found.1
+
       parts_of : content_of (trail l) ≡ keyed (trail (before 61 l)) (trail (lead (behind 61 l)))
-      parts_of = assigned_parts l first_other some_bytes (sym m_equals ∙ q)
+      parts_of = assigned_parts l first_other some_bytes found.0
 
-      pub shaped_no_key : m.key ≡ 0 → Shaped s at shape.Bad
+      pub shaped_no_key : q.key ≡ 0 → {r : Malformed} → Shaped s at (Err r)
       shaped_no_key k = record {
-        content = keyed_none (trail (before 61 l)) (trail (lead (behind 61 l))) (sym (m_key q) ∙ k) ∙ sym parts_of;
+        content = keyed_none (trail (before 61 l)) (trail (lead (behind 61 l))) (sym m_key ∙ k) ∙ sym parts_of;
         parts = tt;
       }
 
-      pub shaped_setting : (m.key ≡ 0 → ⊥) → (a n : ℕ) → joined_from s a ≡ drop m.value l → n ≡ m.length - m.value
-          → Shaped s at (shape.Setting (record { at = at; length = m.key }) (record { at = a; length = n }))
+      pub shaped_setting : (q.key ≡ 0 → ⊥) → (a n : ℕ) → joined_from s a ≡ drop q.value l → n ≡ m.length - q.value
+          → Shaped s at (Ok (Some (Setting (record { at = at; length = q.key }) (record { at = a; length = n }))))
       shaped_setting k a n d y = record {
         content =
-            rw (d, y, m_length, m_key q, m_value q, take_key l, take_value l)
-            (keyed_some (trail (before 61 l)) (trail (lead (behind 61 l))) (λ z. k (m_key q ∙ z)) ∙ sym parts_of);
+            rw (d, y, m_length, m_key, m_value, take_key l, take_value l)
+            (keyed_some (trail (before 61 l)) (trail (lead (behind 61 l))) (λ z. k (m_key ∙ z)) ∙ sym parts_of);
         parts = (
-          omega (arith, m_key q, length_trail (before 61 l), length_starts (before 61 l) l (starts_key l)),
-          omega (arith, ap length d, length-drop m.value l, length_trail l, m_length),
+          omega (arith, m_key, length_trail (before 61 l), length_starts (before 61 l) l (starts_key l)),
+          omega (arith, ap length d, length-drop q.value l, length_trail l, m_length),
         );
       }

@@ -1,14 +1,16 @@
 -- What a line is, by the places of its parts, and what one pass over the line notes of it. Inner.
-use Rattle.std.specs.Prelude.{ℕ, ◌+◌, ◌-◌, ◌≡◌, [], ◌∷◌, Bool, true, false, length, eqb}
+use Rattle.std.specs.Prelude.{ℕ, ◌+◌, ◌-◌, ◌≡◌, [], ◌∷◌, length, eqb, Option, Some, None, Result, Ok, Err}
 use Rattle.base_laws.specs.Base.{pick, both}
 use Rattle.conf_lines.specs.Lines.{Bytes, is_blank, lead, trail}
 use Rattle.conf_lines.specs.Scan.{line_from, Ended}
 use Rattle.conf_lines.specs.Span.{joined_from, spanned, Within}
-use Rattle.conf_lines.specs.declared.Cursor.{Cursor}
+use Rattle.conf_lines.specs.declared.cursor.Cursor.{Cursor}
 use Rattle.conf_content.specs.Content.{has, before, behind, Content, empty, section, setting, bad, content_of}
+use Rattle.conf_content.specs.declared.Equals.{Equals}
 use Rattle.conf_content.specs.declared.Measure.{Measure}
 use Rattle.conf_content.specs.declared.Shape.{Shape}
-use Rattle.conf_content.specs.declared.Shape.TheVariants as shape
+use Rattle.conf_content.specs.declared.Shape.TheVariants.{Header, Setting}
+use Rattle.conf_content.specs.declared.Malformed.{Malformed}
 use Rattle.conf_content.specs.declared.LineRead.{LineRead}
 use Rattle.conf_content.specs.declared.MeasuredLine.{MeasuredLine}
 
@@ -23,22 +25,21 @@ last_of [] = 0
 last_of (b ∷ []) = b
 last_of (b ∷ c ∷ bs) = last_of (c ∷ bs)
 
--- how many bytes there are, and how many up to the last that is no blank; the first, and the last that is no blank; whether there is
--- a `=`, how long the key before the first one is, and where the value behind it begins
+-- how many bytes there are, and how many up to the last that is no blank; the first, and the last that is no blank; of the first `=`, how
+-- long the key before it is, and where the value behind it begins
 unfoldable pub measure_of : Bytes → Measure
 measure_of l = record {
   count = length l;
   length = length (trail l);
   first = first_of l;
   last = last_of (trail l);
-  equals = has 61 l;
-  key = pick (has 61 l) (length (trail (before 61 l))) 0;
-  value = pick (has 61 l) (length l - length (lead (behind 61 l))) 0;
+  equals = pick (has 61 l) (Some (record { key = length (trail (before 61 l)); value = length l - length (lead (behind 61 l)) })) None;
 }
 
--- is a byte the first `=`
-unfoldable pub opens : Measure → ℕ → Bool
-opens m b = pick m.equals false (eqb b 61)
+-- the first `=` with a byte more behind n bytes, of which m are left without the blanks at the end
+abbrev pub equals_with : Option Equals → (b n m : ℕ) → Option Equals
+equals_with (Some e) b n m = Some (record { key = e.key; value = pick (both (is_blank b) (eqb e.value n)) (n + 1) e.value })
+equals_with None b n m = pick (eqb b 61) (Some (record { key = m; value = n + 1 })) None
 
 -- one byte more: `measure_of (l ++ b ∷ [])` is `see (measure_of l) b`
 unfoldable pub see : Measure → ℕ → Measure
@@ -47,31 +48,30 @@ see m b = record {
   length = pick (is_blank b) m.length (m.count + 1);
   first = pick (eqb m.count 0) b m.first;
   last = pick (is_blank b) m.last b;
-  equals = pick m.equals true (eqb b 61);
-  key = pick m.equals m.key (pick (eqb b 61) m.length m.key);
-  value =
-      pick m.equals
-      (pick (both (is_blank b) (eqb m.value m.count)) (m.count + 1) m.value)
-      (pick (eqb b 61) (m.count + 1) m.value);
+  equals = equals_with m.equals b m.count m.length;
 }
 
 -- ---- what it is
 
-abbrev pub meant : Bytes → Shape → Content
-meant s shape.Empty = empty
-meant s (shape.Header n) = section (spanned s n)
-meant s (shape.Setting k v) = setting (spanned s k) (spanned s v)
-meant s shape.Bad = bad
+-- what a line was found to be: nothing, a shape, or malformed
+abbrev pub Found : Type 0
+Found = Result (Option Shape) Malformed
+
+abbrev pub meant : Bytes → Found → Content
+meant s (Ok None) = empty
+meant s (Ok (Some (Header n))) = section (spanned s n)
+meant s (Ok (Some (Setting k v))) = setting (spanned s k) (spanned s v)
+meant s (Err e) = bad
 
 -- its parts are the line's
-abbrev pub Parts : Bytes → Shape → Type 0
-Parts s shape.Empty = Unit {0}
-Parts s (shape.Header n) = Within s n
-Parts s (shape.Setting k v) = Within s k × Within s v
-Parts s shape.Bad = Unit {0}
+abbrev pub Parts : Bytes → Found → Type 0
+Parts s (Ok None) = Unit {0}
+Parts s (Ok (Some (Header n))) = Within s n
+Parts s (Ok (Some (Setting k v))) = Within s k × Within s v
+Parts s (Err e) = Unit {0}
 
 -- a line from a place on: what it is
-pub record Shaped (s : Bytes) (at : ℕ) (r : Shape) : Type 0 where
+pub record Shaped (s : Bytes) (at : ℕ) (r : Found) : Type 0 where
   pub content : meant s r ≡ content_of (trail (joined_from s at))
   pub parts : Parts s r
 

@@ -2,7 +2,7 @@
 use Rattle.std.specs.Prelude.{ℕ, ◌+◌, ◌≤◌, ◌<◌, ◌≡◌, [], ◌∷◌, Bool, true, false, length, drop, eqb}
 use Rattle.base_laws.specs.Base.{pick, both}
 use Rattle.conf_lines.specs.Lines.{Bytes, is_blank, lead, is_remark}
-use Rattle.conf_lines.specs.declared.Cursor.{Cursor}
+use Rattle.conf_lines.specs.declared.cursor.Cursor.{Cursor}
 use Rattle.conf_lines.specs.declared.Pass.{Pass}
 use Rattle.conf_lines.specs.declared.Pass.TheVariants as pass
 use Rattle.conf_lines.specs.declared.Start.{Start}
@@ -59,16 +59,11 @@ scanned m (b ∷ bs) = on_act b bs (λ (k : Mode). scanned k bs) (act_of m b (pi
 abbrev pub line_from : Bytes → Cursor → Scanned
 line_from s c = scanned text (drop c.at s)
 
--- no more line feeds than bytes stand before a cursor
-abbrev pub Sound : Cursor → Type 0
-Sound c = c.feeds ≤ c.at
-
 -- what is left to read at c, l, ends where the line from d on does; so do the line feeds, counted from the start of the text
 pub record Onward (s : Bytes) (c : Cursor) (l : Scanned) (d : Cursor) : Type 0 where
   pub behind : l.behind ≡ (line_from s d).behind
   pub feeds : c.feeds + l.feeds ≡ d.feeds + (line_from s d).feeds
   pub ahead : c.at ≤ d.at
-  pub sound : Sound d
 
 -- what is left to read at c is the line from d on
 pub record Same (s : Bytes) (c : Cursor) (l : Scanned) (d : Cursor) : Type 0 where
@@ -81,7 +76,6 @@ pub record Ended (s : Bytes) (c : Cursor) (l : Scanned) (d : Cursor) : Type 0 wh
   pub feeds : c.feeds + l.feeds ≡ d.feeds
   pub ahead : c.at ≤ d.at
   pub moved : c.at < length s → c.at < d.at
-  pub sound : Sound d
 
 -- the line at c has one more byte, and goes on at d
 pub record Gave (s : Bytes) (c : Cursor) (b : ℕ) (d : Cursor) : Type 0 where

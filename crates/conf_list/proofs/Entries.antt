@@ -1,9 +1,10 @@
 -- The room that a setting leaves, and its parts put one behind the other. Assumes nothing.
 use mathlib.Core.Path.{◌≡◌, ap, subst}
-use mathlib.Core.Bool.{false}
-use mathlib.Core.List.{◌++◌}
-use Prim.Native.Nat.{ℕ, ◌+◌, ◌-◌, ◌≤◌, ◌<◌}
+use Rattle.std.specs.Prelude.{Some, None}
+use mathlib.Core.List.{[], ◌∷◌, ◌++◌}
+use Prim.Native.Nat.{ℕ, ◌+◌, ◌-◌, ◌/◌, ◌%◌, ◌≤◌, ◌<◌}
 use native.Mathlib.Omega.{arith}
+use Rattle.std.specs.Int.{to_be_bytes, w32}
 use lib.ListN.{length, length-append}
 use borrow.Author.Tests.{le-leb, lt-leb}
 use Rattle.base_copy.specs.Put.{Put}
@@ -11,28 +12,51 @@ use Rattle.base_copy.proofs.Puts.{put_length, then}
 use Rattle.conf_lines.specs.Lines.{Bytes}
 use Rattle.conf_typed.specs.Typed.{section_name}
 use Rattle.conf_typed.specs.declared.Section.{Section}
+use Rattle.conf_typed.specs.declared.Section.TheVariants.{Server, Relay, Iolog, Eventlog, Syslog, Logfile, Unknown}
 use Rattle.conf_list.specs.Listing.{Setting, four, counted, entry}
-use Rattle.conf_list.specs.Entry.{size_of, room_for}
-use Rattle.conf_list.specs.declared.Room.{Room}
+use Rattle.conf_list.specs.Entry.{size_of, room_in}
 
 -- ---- the room, where the lengths are those of 4 bytes and the section's is n
 
-module _ (r : Room) (c : Section) (k v : ℕ) (hk : k ≤ 4294967295) (hv : v ≤ 4294967295) {n : ℕ} (e : n ≡ length (section_name c)) where
+pub name_length : (c : Section) → length (section_name c) ≤ 8
+unfolding section_name
+name_length Server = omega arith
+name_length Relay = omega arith
+name_length Iolog = omega arith
+name_length Eventlog = omega arith
+name_length Syslog = omega arith
+name_length Logfile = omega arith
+name_length Unknown = omega arith
+
+pub long_key : (l : ℕ) (c : Section) (k v : ℕ) → 4294967295 < k → None ≡ room_in l c k v
+long_key l c k v h = rw (lt-leb k 4294967295 h)
+
+pub long_value : (l : ℕ) (c : Section) (k v : ℕ) → k ≤ 4294967295 → 4294967295 < v → None ≡ room_in l c k v
+long_value l c k v g h = rw (le-leb k 4294967295 g, lt-leb v 4294967295 h)
+
+module _ (l : ℕ) (c : Section) (k v : ℕ) (hk : k ≤ 4294967295) (hv : v ≤ 4294967295) {n : ℕ} (e : n ≡ length (section_name c)) where
   size : 12 + n + k + v ≡ size_of c k v
   size = ap (λ (m : ℕ). 12 + m + k + v) e
 
-  pub no_room : r.left < 12 + n + k + v → record { fits = false; left = r.left } ≡ room_for r c k v
-  unfolding room_for
+  pub no_room : l < 12 + n + k + v → None ≡ room_in l c k v
   no_room h =
-      rw (le-leb k 4294967295 hk, le-leb v 4294967295 hv, lt-leb (size_of c k v) r.left (subst (λ (m : ℕ). r.left < m) size h))
+      rw (le-leb k 4294967295 hk, le-leb v 4294967295 hv, lt-leb (size_of c k v) l (subst (λ (m : ℕ). l < m) size h))
 
-  pub room_left : 12 + n + k + v ≤ r.left → record { fits = r.fits; left = r.left - (12 + n + k + v) } ≡ room_for r c k v
-  unfolding room_for
+  pub room_left : 12 + n + k + v ≤ l → Some (l - (12 + n + k + v)) ≡ room_in l c k v
   room_left h =
-      rw (le-leb k 4294967295 hk, le-leb v 4294967295 hv, le-leb (size_of c k v) r.left (subst (λ (m : ℕ). m ≤ r.left) size h))
-      (ap (λ (m : ℕ). record { fits = r.fits; left = r.left - m }) size)
+      rw (le-leb k 4294967295 hk, le-leb v 4294967295 hv, le-leb (size_of c k v) l (subst (λ (m : ℕ). m ≤ l) size h))
+      (ap (λ (m : ℕ). Some (l - m)) size)
 
 -- ---- a part behind its length
+
+-- four bytes are those of the last 32 bits
+pub four_low : (n : ℕ) → to_be_bytes w32 (n % 4294967296) ≡ four n
+four_low n =
+    let a : n % 4294967296 / 16777216 % 256 ≡ n / 16777216 % 256 = omega arith in
+    let b : n % 4294967296 / 65536 % 256 ≡ n / 65536 % 256 = omega arith in
+    let c : n % 4294967296 / 256 % 256 ≡ n / 256 % 256 = omega arith in
+    let d : n % 4294967296 % 256 ≡ n % 256 = omega arith in
+    λ i. a i ∷ b i ∷ c i ∷ d i ∷ []
 
 module _ (s : Bytes) (at : ℕ) (bs : Bytes) where
   counted_length : length (counted bs) ≡ 4 + length bs

@@ -11,7 +11,7 @@ use Rattle.base_copy.proofs.Puts.{put_byte, Filling, fill_start, fill_room, fill
 use Rattle.conf_lines.specs.Lines.{Bytes}
 use Rattle.conf_lines.specs.Scan.{Gave, Over}
 use Rattle.conf_lines.specs.Span.{joined_from, spanned, Within}
-use Rattle.conf_lines.specs.declared.Cursor.{Cursor}
+use Rattle.conf_lines.specs.declared.cursor.Cursor.{Cursor}
 use Rattle.conf_lines.specs.declared.span.Span.{Span}
 use Rattle.conf_typed.specs.Read.{cased}
 use Rattle.conf_typed.proofs.Words.{length_cased, first_cased, nothing_cased}
@@ -24,21 +24,21 @@ length_span k s p h = length_cased k (spanned s p) ∙ length-take-le p.length (
 
 -- ---- the loop: what is left of the span from byte i on, put at o, makes the whole
 
-pub record Copying (out₀ : Bytes) (at : ℕ) (s : Bytes) (k : Bool) (n : ℕ) (w₀ : Cursor) (out : Bytes) (w : Cursor) (o i : ℕ) : Type 0 where
+pub record Copying (out₀ : Bytes) (at : ℕ) (s : Bytes) (k : Bool) (n from : ℕ) (out : Bytes) (w : Cursor) (o i : ℕ) : Type 0 where
   pub reading : Reading s n i w
-  pub filling : Filling out₀ at (cased k (take n (joined_from s w₀.at))) out o (cased k (rest s n i w))
+  pub filling : Filling out₀ at (cased k (take n (joined_from s from))) out o (cased k (rest s n i w))
 
-pub copy_start : (out : Bytes) (at : ℕ) (s : Bytes) (k : Bool) (p : Span) → Within s p
-    → let w : Cursor = record { at = p.at; feeds = 0 } in Copying out at s k p.length w out w at 0
-copy_start out at s k p h =
-    let w : Cursor = record { at = p.at; feeds = 0 } in
+pub copy_start : (out : Bytes) (at : ℕ) (s : Bytes) (k : Bool) (p : Span) (w : Cursor) → w.at ≡ p.at → Within s p
+    → Copying out at s k p.length p.at out w at 0
+copy_start out at s k p w e h =
     let all = cased k (take p.length (joined_from s p.at)) in
+    let same = rest_all s p.length w ∙ ap (λ (n : ℕ). take p.length (joined_from s n)) e in
     record {
-      reading = reads_all s p.length w (omega arith) h;
-      filling = subst (λ (l : Bytes). Filling out at all out at (cased k l)) (sym (rest_all s p.length w)) (fill_start out at all);
+      reading = reads_all s p.length w (rw (sym e) at h);
+      filling = subst (λ (l : Bytes). Filling out at all out at (cased k l)) (sym same) (fill_start out at all);
     }
 
-module _ {out₀ : Bytes} {at : ℕ} {s : Bytes} {k : Bool} {n : ℕ} {w₀ : Cursor} {out : Bytes} {w : Cursor} {o i : ℕ} (c : Copying out₀ at s k n w₀ out w o i) where
+module _ {out₀ : Bytes} {at : ℕ} {s : Bytes} {k : Bool} {n from : ℕ} {out : Bytes} {w : Cursor} {o i : ℕ} (c : Copying out₀ at s k n from out w o i) where
   pub copy_size : length out ≡ length out₀
   copy_size = c.filling.size
 
@@ -51,15 +51,15 @@ module _ {out₀ : Bytes} {at : ℕ} {s : Bytes} {k : Bool} {n : ℕ} {w₀ : Cu
       next : cased k (rest s n i w) ≡ (r ∷ []) ++ cased k (rest s n (i + 1) d)
       next = ap (cased k) (rest_next s n i w d b h g) ∙ first_cased k b r (rest s n (i + 1) d) e
 
-      pub copy_room : at + length (cased k (take n (joined_from s w₀.at))) ≤ length out₀ → o < length out
+      pub copy_room : at + length (cased k (take n (joined_from s from))) ≤ length out₀ → o < length out
       copy_room f = let m = fill_room c.filling (r ∷ []) (cased k (rest s n (i + 1) d)) next f in omega arith
 
-      pub copy_more : o < length out → Copying out₀ at s k n w₀ (set out o r) d (o + 1) (i + 1)
+      pub copy_more : o < length out → Copying out₀ at s k n from (set out o r) d (o + 1) (i + 1)
       copy_more l = record {
         reading = reads_on s n i w d b c.reading h g;
         filling = fill_more c.filling (cased k (rest s n (i + 1) d)) next (put_byte out o r l);
       }
 
-  pub copy_end : n ≤ i → at + length (cased k (take n (joined_from s w₀.at))) ≤ length out₀
-      → Put out₀ at (cased k (take n (joined_from s w₀.at))) out o
+  pub copy_end : n ≤ i → at + length (cased k (take n (joined_from s from))) ≤ length out₀
+      → Put out₀ at (cased k (take n (joined_from s from))) out o
   copy_end h f = fill_end c.filling (ap (cased k) (rest_none s n i w h) ∙ nothing_cased k) f

@@ -10,53 +10,29 @@ ghost use Rattle.conf_list.specs.Listing.{four, counted, entry};
 ghost use Rattle.conf_list.specs.Entry.{setting_of, room_for};
 
 use base_copy::put_raw;
+use conf_lines::cursor::Cursor;
 use conf_lines::span::Span;
-use conf_lines::{Cursor, Step, next_byte};
+use conf_lines::{Step, next_byte};
 use conf_typed::{Section, cased_byte};
-
-// Whether all so far has room, and how much of it is left.
-#[derive(Clone, Copy)]
-pub struct Room {
-    pub fits: bool,
-    pub left: usize,
-}
 
 // ---- how long it is
 
-fn section_length(section: Section) -> usize
-    ensures { (result ≡ length (section_name section)) × (result ≤ 8) }
-{
-    match section {
-        Section::Server => 6,
-        Section::Relay => 5,
-        Section::Iolog => 5,
-        Section::Eventlog => 8,
-        Section::Syslog => 6,
-        Section::Logfile => 7,
-        Section::Unknown => 0,
-    }
-}
-
-// The room that is left after a setting whose key and value are so long.
-pub fn room_after(room: Room, section: Section, key: usize, value: usize) -> Room
+// The room that is left after a setting whose key and value are so long: none where it does not fit, or one before it did not.
+pub fn room_after(room: Option<usize>, section: Section, key: usize, value: usize) -> Option<usize>
     ensures { result ≡ room_for room section key value }
 {
-    let left = room.left;
-    let none = Room { fits: false, left };
+    let left = room?;
     if 4294967295 < key {
-        return none;
+        return None;
     }
     if 4294967295 < value {
-        return none;
+        return None;
     }
-    let size = 12 + section_length(section) + key + value;
+    let size = 12 + section.name().len() + key + value;
     if left < size {
-        return none;
+        return None;
     }
-    Room {
-        fits: room.fits,
-        left: left - size,
-    }
+    Some(left - size)
 }
 
 // ---- its bytes
@@ -65,26 +41,9 @@ fn put_four(out: &mut [u8], at: usize, n: usize) -> usize
     requires { at + 4 ≤ length out.old }
     ensures { Put out.old at (four n) out.new result }
 {
-    out[at] = (n / 16777216 % 256) as u8;
-    out[at + 1] = (n / 65536 % 256) as u8;
-    out[at + 2] = (n / 256 % 256) as u8;
-    out[at + 3] = (n % 256) as u8;
+    let low = (n % 4294967296) as u32;
+    out[at..at + 4].copy_from_slice(&low.to_be_bytes());
     at + 4
-}
-
-fn put_name(out: &mut [u8], at: usize, section: Section) -> usize
-    requires { at + length (section_name section) ≤ length out.old }
-    ensures { Put out.old at (section_name section) out.new result }
-{
-    match section {
-        Section::Server => put_raw(out, at, b"server"),
-        Section::Relay => put_raw(out, at, b"relay"),
-        Section::Iolog => put_raw(out, at, b"iolog"),
-        Section::Eventlog => put_raw(out, at, b"eventlog"),
-        Section::Syslog => put_raw(out, at, b"syslog"),
-        Section::Logfile => put_raw(out, at, b"logfile"),
-        Section::Unknown => at,
-    }
 }
 
 // The bytes of a span, in lower case or as they are.
@@ -92,24 +51,19 @@ fn put_span(out: &mut [u8], at: usize, text: &[u8], p: Span, in_lower: bool) -> 
     requires { Within text.now p × (at + length (cased in_lower (spanned text.now p)) ≤ length out.old) }
     ensures { Put out.old at (cased in_lower (spanned text.now p)) out.new result }
 {
-    let n = p.length;
-    let mut w = Cursor { at: p.at, feeds: 0 };
-    let mut o = at;
-    let mut i: usize = 0;
-    while i < n {
+    let mut w = Cursor::at(p.at);
+    for i in 0..p.length {
         match next_byte(text, w) {
             Step::Byte(b, next) => {
-                out[o] = cased_byte(in_lower, b);
-                o += 1;
+                out[at + i] = cased_byte(in_lower, b);
                 w = next;
-                i += 1;
             }
             Step::End(_) => {
-                return o;
+                return at + i;
             }
         }
     }
-    o
+    at + p.length
 }
 
 // The same behind its length.
@@ -125,8 +79,9 @@ fn put_section(out: &mut [u8], at: usize, section: Section) -> usize
     requires { at + length (counted (section_name section)) ≤ length out.old }
     ensures { Put out.old at (counted (section_name section)) out.new result }
 {
-    let start = put_four(out, at, section_length(section));
-    put_name(out, start, section)
+    let name = section.name();
+    let start = put_four(out, at, name.len());
+    put_raw(out, start, name)
 }
 
 // A setting: its section, its key in lower case, its value.

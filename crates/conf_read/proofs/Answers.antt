@@ -14,9 +14,11 @@ use Rattle.conf_list.specs.Listing.{Setting, listing, all_short}
 use Rattle.conf_read.specs.Config.{Statement, sets, refuses, Verdict, refused_at, taken, after, verdict, statements_of, defaults, values_from, fits, answer_of, out_of, config_answer, config_out}
 use Rattle.conf_read.specs.Passes.{start_tally, survey_of, Good, listed}
 use Rattle.conf_read.specs.declared.survey.Tally.{Tally}
-use Rattle.conf_read.specs.declared.survey.Survey.{Survey}
-use Rattle.conf_read.specs.declared.survey.Survey.TheVariants as survey
-use Rattle.conf_read.specs.declared.Config.TheVariants as config
+use Rattle.std.specs.Prelude.{Result, Ok, Err}
+use Rattle.std.specs.Option.{is_some}
+use Rattle.conf_read.specs.Refusals.{bad_line, refused as as_error}
+use Rattle.conf_read.specs.declared.refusal.BadLine.{BadLine}
+use Rattle.conf_read.specs.declared.refusal.ConfigError.TheVariants.{NoRoom}
 use Rattle.conf_read.proofs.Surveys.{tallied_all, on_verdict, all_lines, all_values, all_room}
 
 -- ---- where no line is bad
@@ -45,19 +47,19 @@ module _ (text out : Bytes) where
   abbrev all : Verdict
   all = verdict (statements_of text)
 
-  surveyed : (r : Survey) → r ≡ survey_of (start_tally (length out)) (statements_of text) → r ≡ on_verdict (start_tally (length out)) all
+  surveyed : (r : Result Tally BadLine) → r ≡ survey_of (start_tally (length out)) (statements_of text) → r ≡ on_verdict (start_tally (length out)) all
   surveyed r e = e ∙ all_lines (start_tally (length out)) (statements_of text)
 
   -- a refusal
-  refused_by : (v : Verdict) (r n : ℕ) → survey.Refused r n ≡ on_verdict (start_tally (length out)) v → (config.Refused r n ≡ answer_of v (length out)) × (out ≡ out_of v out)
+  refused_by : (v : Verdict) (b : BadLine) → Err b ≡ on_verdict (start_tally (length out)) v → (Err (as_error b) ≡ answer_of v (length out)) × (out ≡ out_of v out)
   unfolding on_verdict answer_of out_of
-  refused_by (refused_at q m) r n e = let a : r ≡ q = cc in let b : n ≡ m = cc in (rw (a, b) refl, refl)
-  refused_by (taken l) r n e = let y : ◌≡◌ {A = ℕ} 0 1 = cc in absurd (omega arith)
+  refused_by (refused_at q m) b e = let a : b ≡ bad_line q m = cc in (rw a refl, refl)
+  refused_by (taken l) b e = let y : ◌≡◌ {A = ℕ} 0 1 = cc in absurd (omega arith)
 
-  pub refused : (r n : ℕ) → survey.Refused r n ≡ survey_of (start_tally (length out)) (statements_of text)
-      → (config.Refused r n ≡ config_answer text out) × (out ≡ config_out text out)
+  pub refused : (b : BadLine) → Err b ≡ survey_of (start_tally (length out)) (statements_of text)
+      → (Err (as_error b) ≡ config_answer text out) × (out ≡ config_out text out)
   unfolding config_answer config_out
-  refused r n e = refused_by all r n (surveyed (survey.Refused r n) e)
+  refused b e = refused_by all b (surveyed (Err b) e)
 
   -- no refusal
   pub record Taken (t : Tally) : Type 0 where
@@ -65,17 +67,17 @@ module _ (text out : Bytes) where
     pub verdict : all ≡ taken settings
     pub tally : t ≡ tallied_all (start_tally (length out)) settings
 
-  taken_by : (v : Verdict) (t : Tally) → all ≡ v → survey.Whole t ≡ on_verdict (start_tally (length out)) v → Taken t
+  taken_by : (v : Verdict) (t : Tally) → all ≡ v → Ok t ≡ on_verdict (start_tally (length out)) v → Taken t
   unfolding on_verdict
   taken_by (refused_at q m) t h e = let y : ◌≡◌ {A = ℕ} 0 1 = cc in absurd (omega arith)
   taken_by (taken l) t h e = let d : t ≡ tallied_all (start_tally (length out)) l = cc in record { settings = l; verdict = h; tally = d }
 
-  pub whole : (t : Tally) → survey.Whole t ≡ survey_of (start_tally (length out)) (statements_of text) → Taken t
-  whole t e = taken_by all t refl (surveyed (survey.Whole t) e)
+  pub whole : (t : Tally) → Ok t ≡ survey_of (start_tally (length out)) (statements_of text) → Taken t
+  whole t e = taken_by all t refl (surveyed (Ok t) e)
 
   module _ {t : Tally} (k : Taken t) where
-    room_is : t.room.fits ≡ fits k.settings (length out)
-    room_is = ap (λ (x : Tally). x.room.fits) k.tally ∙ all_room (start_tally (length out)) k.settings
+    room_is : is_some t.room ≡ fits k.settings (length out)
+    room_is = ap (λ (x : Tally). is_some x.room) k.tally ∙ all_room (start_tally (length out)) k.settings
 
     values_are : t.values ≡ values_from defaults k.settings
     values_are = ap (λ (x : Tally). x.values) k.tally ∙ all_values (start_tally (length out)) k.settings
@@ -86,16 +88,16 @@ module _ (text out : Bytes) where
     pub all_good : Good (statements_of text)
     all_good = cleaned.good
 
-    pub has_room : t.room.fits ≡ true → length (listing (listed (statements_of text))) ≤ length out
+    pub has_room : is_some t.room ≡ true → length (listing (listed (statements_of text))) ≤ length out
     unfolding fits
     has_room h = rw cleaned.same (leb-true (length (listing k.settings)) (length out) (both_true (all_short k.settings) _ (sym room_is ∙ h)).1)
 
-    pub no_room : t.room.fits ≡ false → (config.NoRoom ≡ config_answer text out) × (out ≡ config_out text out)
+    pub no_room : is_some t.room ≡ false → (Err NoRoom ≡ config_answer text out) × (out ≡ config_out text out)
     unfolding config_answer config_out answer_of out_of
     no_room h = let e : fits k.settings (length out) ≡ false = sym room_is ∙ h in (rw (k.verdict, e) refl, rw (k.verdict, e) refl)
 
-    pub stored : {out' : Bytes} {n : ℕ} → t.room.fits ≡ true → Put out 0 (listing (listed (statements_of text))) out' n
-        → (config.Read n t.values ≡ config_answer text out) × (out' ≡ config_out text out)
+    pub stored : {out' : Bytes} {n : ℕ} → is_some t.room ≡ true → Put out 0 (listing (listed (statements_of text))) out' n
+        → (Ok (record { size = n; values = t.values }) ≡ config_answer text out) × (out' ≡ config_out text out)
     unfolding config_answer config_out answer_of out_of
     stored {out'} {n} h p =
         let e : fits k.settings (length out) ≡ true = sym room_is ∙ h in

@@ -10,11 +10,11 @@ use lib.Seq.{drop-cons}
 use Rattle.base_laws.proofs.Order.{lt_or_le}
 use Rattle.conf_lines.specs.Lines.{Bytes, trail, lead, is_remark, lines_at}
 use Rattle.conf_lines.specs.Scan.{scanned, blanks, comment, line_from, Begins, Skips}
-use Rattle.conf_lines.specs.declared.Cursor.{Cursor}
+use Rattle.conf_lines.specs.declared.cursor.Cursor.{Cursor}
 use Rattle.conf_lines.proofs.Joined.{one_line, remark_line}
 use Rattle.conf_content.specs.Shape.{meant, Read}
 use Rattle.conf_content.specs.declared.LineRead.{LineRead}
-use Rattle.conf_content.specs.declared.Shape.TheVariants as shape
+use Rattle.std.specs.Prelude.{None, Ok}
 use Rattle.conf_typed.specs.declared.Section.{Section}
 use Rattle.conf_read.specs.Config.{on_content, statements}
 use Rattle.conf_read.specs.Passes.{ahead, LineAt}
@@ -51,7 +51,7 @@ module _ (s : Bytes) (c d : Cursor) (r : LineRead) (h : c.at < length s) (b : Be
       (lt_or_le d.at (length s))
 
   pub line_at : LineAt s c r
-  line_at = record { says = line_says; parts = l.shaped.parts; moved = moved; sound = l.ended.sound }
+  line_at = record { says = line_says; parts = l.shaped.parts; moved = moved }
 
 -- ---- a remark
 
@@ -61,6 +61,6 @@ module _ (s : Bytes) (c d : Cursor) (h : c.at < length s) (k : Skips s c d) wher
       let e : c.feeds + 1 + (scanned comment (drop c.at s)).feeds ≡ d.feeds + 1 = omega (arith, k.ended.feeds) in
       remark_line (c.feeds + 1) (drop c.at s) k.remark ∙ rw (e, k.ended.behind) refl
 
-  pub remark_at : LineAt s c (record { shape = shape.Empty; next = d })
+  pub remark_at : LineAt s c (record { shape = Ok None; next = d })
   unfolding on_content
-  remark_at = record { says = λ (t : Section). ap (statements t) after; parts = tt; moved = k.ended.moved h; sound = k.ended.sound }
+  remark_at = record { says = λ (t : Section). ap (statements t) after; parts = tt; moved = k.ended.moved h }

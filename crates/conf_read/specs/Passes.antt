@@ -1,10 +1,9 @@
 -- The two passes over a text: what the first one adds up, and where both stand. Inner.
-use Rattle.std.specs.Prelude.{ℕ, ◌+◌, ◌<◌, ◌≡◌, List, [], ◌∷◌, ◌++◌, true, length, drop}
+use Rattle.std.specs.Prelude.{ℕ, ◌+◌, ◌<◌, ◌≡◌, List, [], ◌∷◌, ◌++◌, length, drop, Some, Result, Ok, Err}
 use Rattle.base_laws.specs.Base.{All}
 use Rattle.base_copy.specs.Put.{Put}
 use Rattle.conf_lines.specs.Lines.{Bytes, lines_at}
-use Rattle.conf_lines.specs.Scan.{Sound}
-use Rattle.conf_lines.specs.declared.Cursor.{Cursor}
+use Rattle.conf_lines.specs.declared.cursor.Cursor.{Cursor}
 use Rattle.conf_content.specs.Content.{Content, empty, section, setting, bad}
 use Rattle.conf_content.specs.Shape.{meant, Parts}
 use Rattle.conf_content.specs.declared.LineRead.{LineRead}
@@ -12,16 +11,16 @@ use Rattle.conf_typed.specs.Typed.{lower, section_of, typed_of}
 use Rattle.conf_typed.specs.declared.Section.{Section}
 use Rattle.conf_list.specs.Listing.{Setting, listing}
 use Rattle.conf_list.specs.Entry.{room_for}
-use Rattle.conf_read.specs.Config.{Statement, sets, refuses, setting_in, on_content, statements, defaults, values_with}
+use Rattle.conf_read.specs.Config.{Statement, sets, refuses, setting_in, on_content, statements, defaults, good_value, values_with}
+use Rattle.conf_read.specs.Refusals.{bad_line}
+use Rattle.conf_read.specs.declared.refusal.ConfRefusal.{ConfRefusal}
+use Rattle.conf_read.specs.declared.refusal.ConfRefusal.TheVariants.{Malformed}
+use Rattle.conf_read.specs.declared.refusal.BadLine.{BadLine}
 use Rattle.conf_read.specs.declared.Written.{Written}
 use Rattle.conf_read.specs.declared.survey.Tally.{Tally}
 use Rattle.conf_read.specs.declared.survey.Place.{Place}
 use Rattle.conf_read.specs.declared.survey.Turn.{Turn}
 use Rattle.conf_read.specs.declared.survey.Turn.TheVariants as turn
-use Rattle.conf_read.specs.declared.survey.Surveyed.{Surveyed}
-use Rattle.conf_read.specs.declared.survey.Surveyed.TheVariants as surveyed
-use Rattle.conf_read.specs.declared.survey.Survey.{Survey}
-use Rattle.conf_read.specs.declared.survey.Survey.TheVariants as survey
 
 -- what the lines from a cursor on say, with a section open
 abbrev pub ahead : Bytes → Cursor → Section → List Statement
@@ -30,18 +29,18 @@ ahead s c t = statements t (lines_at (c.feeds + 1) (drop c.at s))
 -- a setting more
 unfoldable pub tallied : Tally → Setting → Tally
 tallied t s = record {
-  values = values_with t.values s.section (typed_of s.section s.key s.value);
+  values = values_with t.values s.section (good_value (typed_of s.section s.key s.value));
   room = room_for t.room s.section (length s.key) (length s.value);
 }
 
 -- the first pass: up to the first bad line
-unfoldable pub survey_of : Tally → List Statement → Survey
-survey_of t [] = survey.Whole t
-survey_of t (refuses r n ∷ ss) = survey.Refused r n
+unfoldable pub survey_of : Tally → List Statement → Result Tally BadLine
+survey_of t [] = Ok t
+survey_of t (refuses r n ∷ ss) = Err (bad_line r n)
 survey_of t (sets s ∷ ss) = survey_of (tallied t s) ss
 
 abbrev pub start_tally : (room : ℕ) → Tally
-start_tally n = record { values = defaults; room = record { fits = true; left = n } }
+start_tally n = record { values = defaults; room = Some n }
 
 -- ---- one line
 
@@ -50,38 +49,43 @@ pub record LineAt (s : Bytes) (c : Cursor) (r : LineRead) : Type 0 where
   pub says : (t : Section) → ahead s c t ≡ on_content (ahead s r.next) (c.feeds + 1) t (meant s r.shape)
   pub parts : Parts s r.shape
   pub moved : c.at < r.next.at
-  pub sound : Sound r.next
 
 -- what a line does in a section
-unfoldable pub turn_set : Tally → Statement → Turn
-turn_set t (sets s) = turn.Sets (tallied t s)
-turn_set t (refuses r n) = turn.Refuses r
+unfoldable pub turn_set : Tally → Statement → Result Tally ConfRefusal
+turn_set t (sets s) = Ok (tallied t s)
+turn_set t (refuses r n) = Err r
 
-unfoldable pub turn_of : Tally → Section → Content → Turn
-turn_of t s empty = turn.Nothing
-turn_of t s (section name) = turn.Opens (section_of (lower name))
-turn_of t s (setting k v) = turn_set t (setting_in 0 s k v)
-turn_of t s bad = turn.Refuses 16
+abbrev pub setting_turn : Tally → Section → (key value : Bytes) → Result Tally ConfRefusal
+setting_turn t s k v = turn_set t (setting_in 0 s k v)
 
-unfoldable pub surveyed_of : Place → (next : Cursor) → Turn → Surveyed
-surveyed_of p c turn.Nothing = surveyed.On (record { cursor = c; section = p.section; tally = p.tally })
-surveyed_of p c (turn.Opens s) = surveyed.On (record { cursor = c; section = s; tally = p.tally })
-surveyed_of p c (turn.Sets t) = surveyed.On (record { cursor = c; section = p.section; tally = t })
-surveyed_of p c (turn.Refuses r) = surveyed.Refused r (p.cursor.feeds + 1)
+abbrev pub as_turn : Result Tally ConfRefusal → Result Turn ConfRefusal
+as_turn (Ok t) = Ok (turn.Sets t)
+as_turn (Err r) = Err r
+
+unfoldable pub turn_of : Tally → Section → Content → Result Turn ConfRefusal
+turn_of t s empty = Ok turn.Nothing
+turn_of t s (section name) = Ok (turn.Opens (section_of (lower name)))
+turn_of t s (setting k v) = as_turn (setting_turn t s k v)
+turn_of t s bad = Err Malformed
+
+unfoldable pub surveyed_of : Place → (next : Cursor) → Result Turn ConfRefusal → Result Place BadLine
+surveyed_of p c (Ok turn.Nothing) = Ok (record { cursor = c; section = p.section; tally = p.tally })
+surveyed_of p c (Ok (turn.Opens s)) = Ok (record { cursor = c; section = s; tally = p.tally })
+surveyed_of p c (Ok (turn.Sets t)) = Ok (record { cursor = c; section = p.section; tally = t })
+surveyed_of p c (Err r) = Err (bad_line r (p.cursor.feeds + 1))
 
 -- what the first pass gives from a place on
-abbrev pub survey_from : Bytes → Place → Survey
+abbrev pub survey_from : Bytes → Place → Result Tally BadLine
 survey_from s p = survey_of p.tally (ahead s p.cursor p.section)
 
 -- a line further it gives the same
 pub record Further (s : Bytes) (p q : Place) : Type 0 where
   pub same : survey_from s p ≡ survey_from s q
   pub moved : p.cursor.at < q.cursor.at
-  pub sound : Sound q.cursor
 
-abbrev pub Surveys : Bytes → Place → Surveyed → Type 0
-Surveys s p (surveyed.On q) = Further s p q
-Surveys s p (surveyed.Refused r n) = survey_from s p ≡ survey.Refused r n
+abbrev pub Surveys : Bytes → Place → Result Place BadLine → Type 0
+Surveys s p (Ok q) = Further s p q
+Surveys s p (Err b) = survey_from s p ≡ Err b
 
 -- ---- the second pass
 
@@ -106,4 +110,3 @@ pub record Wrote (out s : Bytes) (w : Written) (out' : Bytes) (v : Written) : Ty
   pub rest : listing (listed (ahead s w.cursor w.section)) ≡ bytes ++ listing (listed (ahead s v.cursor v.section))
   pub good : Good (ahead s v.cursor v.section)
   pub moved : w.cursor.at < v.cursor.at
-  pub sound : Sound v.cursor

@@ -2,33 +2,33 @@
 // writes the list, where the first refuses nothing. `read_config` is for hosts and requires nothing; the others are inner.
 #![tactic(auto)]
 
+pub mod refusal;
 pub mod survey;
 pub mod values;
 
 ghost use Rattle.std.specs.Prelude.{◌≡◌, ◌+◌, ◌≤◌, ◌<◌, length};
 ghost use Rattle.base_copy.specs.Put.{Put};
-ghost use Rattle.conf_lines.specs.Scan.{Sound};
 ghost use Rattle.conf_list.specs.Listing.{listing};
-ghost use Rattle.conf_read.specs.Config.{statements_of, verdict, config_answer, config_out};
+ghost use Rattle.conf_read.specs.Config.{statements_of, config_answer, config_out};
 ghost use Rattle.conf_read.specs.Passes.{ahead, Good, listed, Wrote};
 
-use crate::survey::{Survey, line_at, survey_text};
+use crate::refusal::ConfigError;
+use crate::survey::{line_at, survey_text};
 use crate::values::Values;
 use conf_content::Shape;
-use conf_lines::Cursor;
+use conf_lines::cursor::Cursor;
 use conf_list::put_setting;
 use conf_typed::{Section, section_of};
 
-// The bytes listed and the typed values; a refusal with the number of its line; or that the list has no room.
-#[derive(Drop)]
-pub enum Config {
-    Read { size: usize, values: Values },
-    Refused { refusal: u8, line: usize },
-    NoRoom,
+// A configuration read: how many bytes its list is, and the typed values.
+#[derive(Clone, Copy)]
+pub struct Config {
+    pub size: usize,
+    pub values: Values,
 }
 
 // Where the second pass stands: in the buffer, at a line, in a section.
-#[derive(Drop)]
+#[derive(Clone, Copy)]
 pub struct Written {
     pub at: usize,
     pub cursor: Cursor,
@@ -36,37 +36,30 @@ pub struct Written {
 }
 
 fn write_line(out: &mut [u8], text: &[u8], w: Written) -> Written
-    requires cursor { Sound w.cursor × (w.cursor.at < length text.now) }
+    requires cursor { w.cursor.at < length text.now }
     requires good { Good (ahead text.now w.cursor w.section) }
     requires room { w.at + length (listing (listed (ahead text.now w.cursor w.section))) ≤ length out.old }
     ensures { Wrote out.old text.now w out.new result }
 {
-    let at = w.at;
-    let section = w.section;
     let l = line_at(text, w.cursor);
     let cursor = l.next;
-    let shape = l.shape;
+    // the first pass refuses a text that has a malformed line
+    let Ok(found) = l.shape else {
+        return Written { cursor, ..w };
+    };
+    let Some(shape) = found else {
+        return Written { cursor, ..w };
+    };
     match shape {
-        Shape::Empty => Written {
-            at,
-            cursor,
-            section,
-        },
         Shape::Header(name) => Written {
-            at,
             cursor,
             section: section_of(text, name),
+            ..w
         },
         Shape::Setting(k, v) => Written {
-            at: put_setting(out, at, text, section, k, v),
+            at: put_setting(out, w.at, text, w.section, k, v),
             cursor,
-            section,
-        },
-        // the first pass refuses a text that has such a line
-        Shape::Bad => Written {
-            at,
-            cursor,
-            section,
+            ..w
         },
     }
 }
@@ -78,7 +71,7 @@ fn write_list(out: &mut [u8], text: &[u8]) -> usize
 {
     let mut w = Written {
         at: 0,
-        cursor: Cursor { at: 0, feeds: 0 },
+        cursor: Cursor::at(0),
         section: Section::Unknown,
     };
     while w.cursor.at < text.len() {
@@ -89,19 +82,17 @@ fn write_list(out: &mut [u8], text: &[u8]) -> usize
 
 // Reads a configuration: stores the list of its settings at the start of the buffer, and returns its size with the typed values. A
 // refusal, or a list that has no room, leaves the buffer as it is.
-pub fn read_config(text: &[u8], out: &mut [u8]) -> Config
+pub fn read_config(text: &[u8], out: &mut [u8]) -> Result<Config, ConfigError>
     ensures answer { result ≡ config_answer text.now out.old }
     ensures out { out.new ≡ config_out text.now out.old }
 {
-    match survey_text(text, out.len()) {
-        Survey::Refused { refusal, line } => Config::Refused { refusal, line },
-        Survey::Whole(t) => {
-            if t.room.fits {
-                let values = t.values;
-                let size = write_list(out, text);
-                return Config::Read { size, values };
-            }
-            Config::NoRoom
-        }
+    let tally = survey_text(text, out.len())?;
+    if tally.room.is_none() {
+        return Err(ConfigError::NoRoom);
     }
+    let size = write_list(out, text);
+    Ok(Config {
+        size,
+        values: tally.values,
+    })
 }

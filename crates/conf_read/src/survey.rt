@@ -1,64 +1,52 @@
 // The first pass: the refusal, the typed values, the room. Inner.
 ghost use Rattle.std.specs.Prelude.{◌≡◌, ◌+◌, ◌≤◌, ◌<◌, length};
-ghost use Rattle.conf_lines.specs.Scan.{Sound};
 ghost use Rattle.conf_lines.specs.Span.{spanned, Within};
 ghost use Rattle.conf_content.specs.Shape.{meant, Parts};
 ghost use Rattle.conf_content.specs.Content.{setting};
-ghost use Rattle.conf_read.specs.Config.{is_unknown, is_wrong, statements_of};
-ghost use Rattle.conf_read.specs.Passes.{start_tally, turn_of, LineAt, surveyed_of, Surveys, survey_of};
+ghost use Rattle.conf_read.specs.Config.{is_unknown, statements_of};
+ghost use Rattle.conf_read.specs.Passes.{start_tally, setting_turn, turn_of, LineAt, surveyed_of, Surveys, survey_of};
 
+use crate::refusal::{BadLine, ConfRefusal};
 use crate::values::{Values, default_values, values_with};
-use conf_content::{LineRead, Shape, read_line};
+use conf_content::{LineRead, Malformed, Shape, read_line};
+use conf_lines::cursor::Cursor;
 use conf_lines::span::Span;
-use conf_lines::{Cursor, Start, line_start};
-use conf_list::{Room, room_after};
-use conf_typed::{Section, Typed, section_of, typed_of};
+use conf_lines::{Start, line_start};
+use conf_list::room_after;
+use conf_typed::{Section, section_of, typed_of};
 
-// What is added up of the settings so far.
+// What is added up of the settings so far: the room that is left is none where one of them did not fit.
 #[derive(Clone, Copy)]
 pub struct Tally {
     pub values: Values,
-    pub room: Room,
+    pub room: Option<usize>,
 }
 
-// What a line does: nothing, it opens a section, it adds a setting, or it is bad.
-#[derive(Drop)]
+// What a good line does: nothing, it opens a section, or it adds a setting.
+#[derive(Clone, Copy)]
 pub enum Turn {
     Nothing,
     Opens(Section),
     Sets(Tally),
-    Refuses(u8),
 }
 
 // Where the pass stands: at a line, in a section, with what was added up.
-#[derive(Drop)]
+#[derive(Clone, Copy)]
 pub struct Place {
     pub cursor: Cursor,
     pub section: Section,
     pub tally: Tally,
 }
 
-#[derive(Drop)]
-pub enum Surveyed {
-    On(Place),
-    Refused { refusal: u8, line: usize },
-}
-
-#[derive(Drop)]
-pub enum Survey {
-    Whole(Tally),
-    Refused { refusal: u8, line: usize },
-}
-
 // The line at a cursor, and the cursor of the next one. A remark is a line with nothing on it.
 pub fn line_at(text: &[u8], c: Cursor) -> LineRead
-    requires { Sound c × (c.at < length text.now) }
+    requires { c.at < length text.now }
     ensures { LineAt text.now c result }
 {
     match line_start(text, c) {
         Start::Line(first) => read_line(text, first),
         Start::Remark(next) => LineRead {
-            shape: Shape::Empty,
+            shape: Ok(None),
             next,
         },
     }
@@ -67,99 +55,77 @@ pub fn line_at(text: &[u8], c: Cursor) -> LineRead
 fn is_unknown(section: Section) -> bool
     ensures { result ≡ is_unknown section }
 {
-    match section {
-        Section::Server => false,
-        Section::Relay => false,
-        Section::Iolog => false,
-        Section::Eventlog => false,
-        Section::Syslog => false,
-        Section::Logfile => false,
-        Section::Unknown => true,
-    }
-}
-
-fn is_wrong(t: Typed) -> bool
-    ensures { result ≡ is_wrong t }
-{
-    match t {
-        Typed::Untyped => false,
-        Typed::Timeout(_) => false,
-        Typed::Keepalive(_) => false,
-        Typed::Maxseq(_) => false,
-        Typed::Wrong => true,
-    }
+    matches!(section, Section::Unknown)
 }
 
 // A setting in a section.
-fn take_setting(text: &[u8], section: Section, k: Span, v: Span, t: Tally) -> Turn
+fn take_setting(
+    text: &[u8],
+    section: Section,
+    k: Span,
+    v: Span,
+    t: Tally,
+) -> Result<Tally, ConfRefusal>
     requires { Within text.now k × Within text.now v }
-    ensures { result ≡ turn_of t section (setting (spanned text.now k) (spanned text.now v)) }
+    ensures { result ≡ setting_turn t section (spanned text.now k) (spanned text.now v) }
 {
     if is_unknown(section) {
-        return Turn::Refuses(17);
+        return Err(ConfRefusal::NoSection);
     }
-    let typed = typed_of(text, section, k, v);
-    if is_wrong(typed) {
-        return Turn::Refuses(18);
-    }
+    let typed = typed_of(text, section, k, v)?;
     let values = values_with(t.values, section, typed);
     let room = room_after(t.room, section, k.length, v.length);
-    Turn::Sets(Tally { values, room })
+    Ok(Tally { values, room })
 }
 
-fn take_line(text: &[u8], section: Section, shape: Shape, t: Tally) -> Turn
+fn take_line(
+    text: &[u8],
+    section: Section,
+    shape: Result<Option<Shape>, Malformed>,
+    t: Tally,
+) -> Result<Turn, ConfRefusal>
     requires { Parts text.now shape }
     ensures { result ≡ turn_of t section (meant text.now shape) }
 {
-    match shape {
-        Shape::Empty => Turn::Nothing,
-        Shape::Header(name) => Turn::Opens(section_of(text, name)),
-        Shape::Setting(k, v) => take_setting(text, section, k, v, t),
-        Shape::Bad => Turn::Refuses(16),
+    match shape? {
+        None => Ok(Turn::Nothing),
+        Some(Shape::Header(name)) => Ok(Turn::Opens(section_of(text, name))),
+        Some(Shape::Setting(k, v)) => Ok(Turn::Sets(take_setting(text, section, k, v, t)?)),
     }
 }
 
 // Where the pass stands behind a line that did this.
-fn place_after(p: Place, next: Cursor, turn: Turn) -> Surveyed
+#[tactic(auto, unfolding(crate::specs::Passes::surveyed_of))]
+fn place_after(p: Place, next: Cursor, turn: Result<Turn, ConfRefusal>) -> Result<Place, BadLine>
     requires { p.cursor.feeds < 18446744073709551615 }
     ensures { result ≡ surveyed_of p next turn }
 {
-    let section = p.section;
-    let tally = p.tally;
     match turn {
-        Turn::Nothing => Surveyed::On(Place {
+        Ok(Turn::Nothing) => Ok(Place { cursor: next, ..p }),
+        Ok(Turn::Opens(section)) => Ok(Place {
             cursor: next,
             section,
-            tally,
+            ..p
         }),
-        Turn::Opens(opened) => Surveyed::On(Place {
+        Ok(Turn::Sets(tally)) => Ok(Place {
             cursor: next,
-            section: opened,
             tally,
+            ..p
         }),
-        Turn::Sets(more) => Surveyed::On(Place {
-            cursor: next,
-            section,
-            tally: more,
-        }),
-        Turn::Refuses(refusal) => Surveyed::Refused {
+        Err(refusal) => Err(BadLine {
             refusal,
             line: p.cursor.feeds + 1,
-        },
+        }),
     }
 }
 
-fn survey_line(text: &[u8], p: Place) -> Surveyed
-    requires { Sound p.cursor × (p.cursor.at < length text.now) }
+fn survey_line(text: &[u8], p: Place) -> Result<Place, BadLine>
+    requires { p.cursor.at < length text.now }
     ensures { Surveys text.now p result }
 {
-    let section = p.section;
-    let tally = p.tally;
     let l = line_at(text, p.cursor);
-    let next = l.next;
-    let shape = l.shape;
-    let turn = take_line(text, section, shape, tally);
-    place_after(p, next, turn)
+    let turn = take_line(text, p.section, l.shape, p.tally);
+    place_after(p, l.next, turn)
 }
 
 fn start_tally(room: usize) -> Tally
@@ -167,31 +133,20 @@ fn start_tally(room: usize) -> Tally
 {
     Tally {
         values: default_values(),
-        room: Room {
-            fits: true,
-            left: room,
-        },
+        room: Some(room),
     }
 }
 
-pub fn survey_text(text: &[u8], room: usize) -> Survey
+pub fn survey_text(text: &[u8], room: usize) -> Result<Tally, BadLine>
     ensures { result ≡ survey_of (start_tally room) (statements_of text.now) }
 {
     let mut p = Place {
-        cursor: Cursor { at: 0, feeds: 0 },
+        cursor: Cursor::at(0),
         section: Section::Unknown,
         tally: start_tally(room),
     };
     while p.cursor.at < text.len() {
-        match survey_line(text, p) {
-            Surveyed::On(next) => {
-                p = next;
-            }
-            Surveyed::Refused { refusal, line } => {
-                return Survey::Refused { refusal, line };
-            }
-        }
+        p = survey_line(text, p)?;
     }
-    let tally = p.tally;
-    Survey::Whole(tally)
+    Ok(p.tally)
 }

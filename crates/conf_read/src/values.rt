@@ -33,61 +33,47 @@ pub fn default_values() -> Values
     }
 }
 
-fn link_with(l: Link, t: Typed) -> Link
+#[tactic(auto, unfolding(crate::specs::Config::link_with))]
+fn link_with(l: Link, t: Option<Typed>) -> Link
     ensures { result ≡ link_with l t }
 {
     match t {
-        Typed::Untyped => l,
-        Typed::Timeout(timeout) => Link {
-            timeout,
-            keepalive: l.keepalive,
-        },
-        Typed::Keepalive(keepalive) => Link {
-            timeout: l.timeout,
-            keepalive,
-        },
-        Typed::Maxseq(_) => l,
-        Typed::Wrong => l,
+        Some(Typed::Timeout(timeout)) => Link { timeout, ..l },
+        Some(Typed::Keepalive(keepalive)) => Link { keepalive, ..l },
+        Some(Typed::Maxseq(_)) => l,
+        None => l,
     }
 }
 
-fn maxseq_with(m: u64, t: Typed) -> u64
+#[tactic(auto, unfolding(crate::specs::Config::maxseq_with))]
+fn maxseq_with(m: u64, t: Option<Typed>) -> u64
     ensures { result ≡ maxseq_with m t }
 {
     match t {
-        Typed::Untyped => m,
-        Typed::Timeout(_) => m,
-        Typed::Keepalive(_) => m,
-        Typed::Maxseq(n) => n,
-        Typed::Wrong => m,
+        Some(Typed::Timeout(_)) => m,
+        Some(Typed::Keepalive(_)) => m,
+        Some(Typed::Maxseq(n)) => n,
+        None => m,
     }
 }
 
-pub fn values_with(vs: Values, section: Section, t: Typed) -> Values
+#[tactic(auto, unfolding(crate::specs::Config::values_with))]
+pub fn values_with(vs: Values, section: Section, t: Option<Typed>) -> Values
     ensures { result ≡ values_with vs section t }
 {
-    let server = vs.server;
-    let relay = vs.relay;
-    let maxseq = vs.maxseq;
     match section {
         Section::Server => Values {
-            server: link_with(server, t),
-            relay,
-            maxseq,
+            server: link_with(vs.server, t),
+            ..vs
         },
         Section::Relay => Values {
-            server,
-            relay: link_with(relay, t),
-            maxseq,
+            relay: link_with(vs.relay, t),
+            ..vs
         },
         Section::Iolog => Values {
-            server,
-            relay,
-            maxseq: maxseq_with(maxseq, t),
+            maxseq: maxseq_with(vs.maxseq, t),
+            ..vs
         },
-        Section::Eventlog => vs,
-        Section::Syslog => vs,
-        Section::Logfile => vs,
-        Section::Unknown => vs,
+        Section::Eventlog | Section::Syslog | Section::Logfile | Section::Unknown => vs,
     }
 }

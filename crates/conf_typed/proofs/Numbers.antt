@@ -1,5 +1,5 @@
 -- The number that a span's digits are, up to 2^32.
-use Prim.Native.Nat.{ℕ, zero, suc, ◌+◌, ◌*◌, ◌-◌, ◌≤◌, ◌<◌}
+use Prim.Native.Nat.{ℕ, zero, suc, ◌+◌, ◌*◌, ◌-◌, ◌≤◌, ◌<◌, min}
 use native.Mathlib.Omega.{arith}
 use mathlib.Core.Path.{◌≡◌, refl, sym, ap, ◌∙◌}
 use mathlib.Core.List.{[], ◌∷◌}
@@ -11,12 +11,10 @@ use borrow.Author.Tests.{le-leb, lt-leb}
 use Rattle.base_laws.specs.Base.{pick, both}
 use Rattle.base_laws.proofs.Order.{lt_or_le}
 use Rattle.conf_lines.specs.Lines.{Bytes}
-use Rattle.conf_typed.specs.Typed.{is_digit, all_digits, is_decimal, decimal_from, decimal, timeout_of, maxseq_of}
+use Rattle.conf_typed.specs.Typed.{is_digit, all_digits, is_decimal, decimal_from, decimal, bad, timeout_of, maxseq_of}
 use Rattle.conf_typed.specs.Read.{capped, decimal_of}
-use Rattle.conf_typed.specs.declared.Decimal.{Decimal}
-use Rattle.conf_typed.specs.declared.Decimal.TheVariants as dec
-use Rattle.conf_typed.specs.declared.Typed.{Typed}
-use Rattle.conf_typed.specs.declared.Typed.TheVariants.{Timeout, Maxseq, Wrong}
+use Rattle.conf_typed.specs.declared.BadValue.{BadValue}
+use Rattle.std.specs.Prelude.{Option, Some, None, Result, Ok, Err}
 
 -- ---- up to 2^32
 
@@ -56,27 +54,27 @@ capped_from a (b ∷ bs) =
 
 -- ---- the digits from one on, after those that give v
 
-unfoldable pub number_from : ℕ → Bytes → Decimal
-number_from v bs = pick (all_digits bs) (dec.Number (capped (decimal_from v bs))) dec.Other
+unfoldable pub number_from : ℕ → Bytes → Option ℕ
+number_from v bs = pick (all_digits bs) (Some (capped (decimal_from v bs))) None
 
 pub number_digit : (v b : ℕ) (j t : Bytes) → j ≡ b ∷ t → is_digit b ≡ true → number_from v j ≡ number_from (capped (v * 10 + (b - 48))) t
 unfolding number_from all_digits decimal_from
 number_digit v b j t e d =
     ap (number_from v) e
-    ∙ ap (λ (q : Bool). pick (both q (all_digits t)) (dec.Number (capped (decimal_from (v * 10 + (b - 48)) t))) dec.Other) d
-    ∙ ap (λ (x : ℕ). pick (all_digits t) (dec.Number x) dec.Other) (sym (capped_from (v * 10 + (b - 48)) t))
+    ∙ ap (λ (q : Bool). pick (both q (all_digits t)) (Some (capped (decimal_from (v * 10 + (b - 48)) t))) None) d
+    ∙ ap (λ (x : ℕ). pick (all_digits t) (Some x) None) (sym (capped_from (v * 10 + (b - 48)) t))
 
-pub number_other : (v b : ℕ) (j t : Bytes) → j ≡ b ∷ t → is_digit b ≡ false → number_from v j ≡ dec.Other
+pub number_other : (v b : ℕ) (j t : Bytes) → j ≡ b ∷ t → is_digit b ≡ false → number_from v j ≡ None
 unfolding number_from all_digits
 number_other v b j t e d =
     ap (number_from v) e
-    ∙ ap (λ (q : Bool). pick (both q (all_digits t)) (dec.Number (capped (decimal_from v (b ∷ t)))) dec.Other) d
+    ∙ ap (λ (q : Bool). pick (both q (all_digits t)) (Some (capped (decimal_from v (b ∷ t)))) None) d
 
-pub number_done : (v : ℕ) (j : Bytes) → j ≡ [] → v ≤ 4294967296 → number_from v j ≡ dec.Number v
+pub number_done : (v : ℕ) (j : Bytes) → j ≡ [] → v ≤ 4294967296 → number_from v j ≡ Some v
 unfolding number_from all_digits decimal_from
-number_done v j e h = ap (number_from v) e ∙ ap dec.Number (capped_small v h)
+number_done v j e h = ap (number_from v) e ∙ ap Some (capped_small v h)
 
-pub decimal_empty : (j : Bytes) (n : ℕ) → n ≡ 0 → decimal_of (take n j) ≡ dec.Other
+pub decimal_empty : (j : Bytes) (n : ℕ) → n ≡ 0 → decimal_of (take n j) ≡ None
 unfolding decimal_of is_decimal
 decimal_empty j n e = ap (λ (m : ℕ). decimal_of (take m j)) e
 
@@ -88,35 +86,43 @@ decimal_start (b ∷ j) (suc n) h some = refl
 
 -- ---- what the typed settings make of it
 
-abbrev timeout_in : ℕ → Typed
-timeout_in n = pick (leb n 4294967295) (Timeout n) Wrong
+abbrev timeout_in : ℕ → Result ℕ BadValue
+timeout_in n = pick (leb n 4294967295) (Ok n) (Err bad)
 
-abbrev pub timeout_from : Decimal → Typed
-timeout_from (dec.Number n) = timeout_in n
-timeout_from dec.Other = Wrong
+abbrev pub timeout_from : Option ℕ → Result ℕ BadValue
+timeout_from (Some n) = timeout_in n
+timeout_from None = (Err bad)
 
 timeout_capped : (x : ℕ) → timeout_in (capped x) ≡ timeout_in x
 timeout_capped x = go (lt_or_le 4294967296 x)
   where
     go : (4294967296 < x) ⊎ (x ≤ 4294967296) → timeout_in (capped x) ≡ timeout_in x
-    go (inl h) = ap timeout_in (capped_big x h) ∙ sym (ap (λ (t : Bool). pick t (Timeout x) Wrong) (lt-leb x 4294967295 (omega arith)))
+    go (inl h) = ap timeout_in (capped_big x h) ∙ sym (ap (λ (t : Bool). pick t (Ok x) (Err bad)) (lt-leb x 4294967295 (omega arith)))
     go (inr h) = ap timeout_in (capped_small x h)
 
 pub timeout_from_lem : (v : Bytes) → timeout_from (decimal_of v) ≡ timeout_of v
 unfolding decimal_of timeout_of
 timeout_from_lem v = go (is_decimal v)
   where
-    go : (t : Bool) → timeout_from (pick t (dec.Number (capped (decimal v))) dec.Other)
-        ≡ pick (both t (leb (decimal v) 4294967295)) (Timeout (decimal v)) Wrong
+    go : (t : Bool) → timeout_from (pick t (Some (capped (decimal v))) None)
+        ≡ pick (both t (leb (decimal v) 4294967295)) (Ok (decimal v)) (Err bad)
     go true = timeout_capped (decimal v)
     go false = refl
 
-abbrev maxseq_in : ℕ → Typed
-maxseq_in n = pick (leb 1 n) (Maxseq (pick (leb n 2176782336) n 2176782336)) Wrong
+-- the least of two numbers
+pub least : (x n : ℕ) → min x n ≡ pick (leb x n) x n
+least x n = go (lt_or_le n x)
+  where
+    go : (n < x) ⊎ (x ≤ n) → min x n ≡ pick (leb x n) x n
+    go (inl h) = let e : min x n ≡ n = omega arith in e ∙ sym (ap (λ (t : Bool). pick t x n) (lt-leb x n h))
+    go (inr h) = let e : min x n ≡ x = omega arith in e ∙ sym (ap (λ (t : Bool). pick t x n) (le-leb x n h))
 
-abbrev pub maxseq_from : Decimal → Typed
-maxseq_from (dec.Number n) = maxseq_in n
-maxseq_from dec.Other = Wrong
+abbrev maxseq_in : ℕ → Result ℕ BadValue
+maxseq_in n = pick (leb 1 n) (Ok (pick (leb n 2176782336) n 2176782336)) (Err bad)
+
+abbrev pub maxseq_from : Option ℕ → Result ℕ BadValue
+maxseq_from (Some n) = maxseq_in n
+maxseq_from None = (Err bad)
 
 maxseq_capped : (x : ℕ) → maxseq_in (capped x) ≡ maxseq_in x
 maxseq_capped x = go (lt_or_le 4294967296 x)
@@ -124,15 +130,15 @@ maxseq_capped x = go (lt_or_le 4294967296 x)
     go : (4294967296 < x) ⊎ (x ≤ 4294967296) → maxseq_in (capped x) ≡ maxseq_in x
     go (inl h) =
         ap maxseq_in (capped_big x h)
-        ∙ sym (ap (λ (t : Bool). pick t (Maxseq 2176782336) Wrong) (le-leb 1 x (omega arith)))
-        ∙ sym (ap (λ (t : Bool). pick (leb 1 x) (Maxseq (pick t x 2176782336)) Wrong) (lt-leb x 2176782336 (omega arith)))
+        ∙ sym (ap (λ (t : Bool). pick t (Ok 2176782336) (Err bad)) (le-leb 1 x (omega arith)))
+        ∙ sym (ap (λ (t : Bool). pick (leb 1 x) (Ok (pick t x 2176782336)) (Err bad)) (lt-leb x 2176782336 (omega arith)))
     go (inr h) = ap maxseq_in (capped_small x h)
 
 pub maxseq_from_lem : (v : Bytes) → maxseq_from (decimal_of v) ≡ maxseq_of v
 unfolding decimal_of maxseq_of
 maxseq_from_lem v = go (is_decimal v)
   where
-    go : (t : Bool) → maxseq_from (pick t (dec.Number (capped (decimal v))) dec.Other)
-        ≡ pick (both t (leb 1 (decimal v))) (Maxseq (pick (leb (decimal v) 2176782336) (decimal v) 2176782336)) Wrong
+    go : (t : Bool) → maxseq_from (pick t (Some (capped (decimal v))) None)
+        ≡ pick (both t (leb 1 (decimal v))) (Ok (pick (leb (decimal v) 2176782336) (decimal v) 2176782336)) (Err bad)
     go true = maxseq_capped (decimal v)
     go false = refl

@@ -6,9 +6,9 @@ use mathlib.Core.Path.{◌≡◌, ap, ◌∙◌}
 use mathlib.Core.List.{[], ◌∷◌}
 use lib.ListN.{length, take}
 use Rattle.conf_lines.specs.Lines.{Bytes}
-use Rattle.conf_lines.specs.Scan.{Sound, Gave, Over}
+use Rattle.conf_lines.specs.Scan.{Gave, Over}
 use Rattle.conf_lines.specs.Span.{joined_from}
-use Rattle.conf_lines.specs.declared.Cursor.{Cursor}
+use Rattle.conf_lines.specs.declared.cursor.Cursor.{Cursor}
 
 -- the bytes i to n of a span, of which the first stands at a cursor
 abbrev pub rest : Bytes → (n i : ℕ) → Cursor → Bytes
@@ -17,11 +17,10 @@ rest s n i w = take (n - i) (joined_from s w.at)
 -- the line has as many
 pub record Reading (s : Bytes) (n i : ℕ) (w : Cursor) : Type 0 where
   pub bound : i ≤ n
-  pub sound : Sound w
   pub within : n - i ≤ length (joined_from s w.at)
 
-pub reads_all : (s : Bytes) (n : ℕ) (w : Cursor) → Sound w → n ≤ length (joined_from s w.at) → Reading s n 0 w
-reads_all s n w f h = record { bound = omega arith; sound = f; within = omega arith }
+pub reads_all : (s : Bytes) (n : ℕ) (w : Cursor) → n ≤ length (joined_from s w.at) → Reading s n 0 w
+reads_all s n w h = record { bound = omega arith; within = omega arith }
 
 pub rest_all : (s : Bytes) (n : ℕ) (w : Cursor) → rest s n 0 w ≡ take n (joined_from s w.at)
 rest_all s n w = ap (λ (m : ℕ). take m (joined_from s w.at)) (sub-zero n)
@@ -31,7 +30,7 @@ module _ (s : Bytes) (n i : ℕ) (w d : Cursor) where
   reads_on b r h g =
       let l = ap length g.joined in
       let m = r.within in
-      record { bound = omega arith; sound = g.onward.sound; within = omega arith }
+      record { bound = omega arith; within = omega arith }
 
   pub not_over : Reading s n i w → i < n → Over s w d → ⊥
   not_over r h o =

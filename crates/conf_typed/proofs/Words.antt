@@ -1,16 +1,21 @@
 -- The bytes of a span against a word.
 use Prim.Native.Nat.{ℕ, suc, ◌+◌, ◌≤◌, ◌<◌}
 use native.Mathlib.Numerals.{add-one}
+use native.Mathlib.Omega.{arith}
+use mathlib.Core.Logic.{◌⊎◌, inl, inr}
+use Rattle.std.specs.Prelude.{◌&&◌}
+use Rattle.std.specs.Char.{is_ascii_digit, to_ascii_lowercase}
 use mathlib.Core.Path.{◌≡◌, refl, sym, ap, ◌∙◌}
 use mathlib.Core.List.{[], ◌∷◌}
 use mathlib.Core.Bool.{Bool, true, false}
 use lib.ListN.{length, take, drop, get_or, drop_of_length-le}
 use lib.Seq.{drop-cons, length-take-le}
-use lib.Dec.{eqb}
-use borrow.Author.Tests.{eq-eqb, ne_eqb}
-use Rattle.base_laws.specs.Base.{both}
+use lib.Dec.{eqb, leb}
+use borrow.Author.Tests.{eq-eqb, ne_eqb, lt-ltb, le-ltb, le-leb, lt-leb}
+use Rattle.base_laws.specs.Base.{pick, both}
+use Rattle.base_laws.proofs.Order.{lt_or_le}
 use Rattle.conf_lines.specs.Lines.{Bytes}
-use Rattle.conf_typed.specs.Typed.{same, lower}
+use Rattle.conf_typed.specs.Typed.{same, is_digit, lower_byte, lower}
 use Rattle.conf_typed.specs.Read.{cased}
 
 pub length_lower : (bs : Bytes) → length (lower bs) ≡ length bs
@@ -79,3 +84,21 @@ word_done k j word i e h =
     ap (λ (l : Bytes). same (cased k l) (drop i word)) e
     ∙ ap (λ (l : Bytes). same l (drop i word)) (nothing_cased k)
     ∙ ap (same []) (drop_of_length-le word h)
+
+-- ---- std's words for a byte's case and for a digit
+
+pub lower_as : (b : ℕ) → to_ascii_lowercase b ≡ lower_byte b
+unfolding lower_byte
+lower_as b = go (lt_or_le b 65) (lt_or_le b 91)
+  where
+    go : (b < 65) ⊎ (65 ≤ b) → (b < 91) ⊎ (91 ≤ b) → to_ascii_lowercase b ≡ pick (both (leb 65 b) (leb b 90)) (b + 32) b
+    go (inl h) k = rw (lt-ltb b 65 h, lt-leb 65 b h)
+    go (inr h) (inl k) = rw (le-ltb b 65 h, lt-ltb b 91 k, le-leb 65 b h, le-leb b 90 (omega arith))
+    go (inr h) (inr k) = rw (le-ltb b 65 h, le-ltb b 91 k, le-leb 65 b h, lt-leb b 90 (omega arith))
+
+pub digit_as : (b : ℕ) → is_ascii_digit b ≡ is_digit b
+digit_as b = go (leb 48 b)
+  where
+    go : (t : Bool) → (t && leb b 57) ≡ both t (leb b 57)
+    go true = refl
+    go false = refl

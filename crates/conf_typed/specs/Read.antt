@@ -1,10 +1,8 @@
 -- How the code reads words and numbers. Inner.
-use Rattle.std.specs.Prelude.{ℕ, Bool, true, false, leb}
+use Rattle.std.specs.Prelude.{ℕ, Bool, true, false, leb, Option, Some, None}
 use Rattle.base_laws.specs.Base.{pick}
 use Rattle.conf_lines.specs.Lines.{Bytes}
 use Rattle.conf_typed.specs.Typed.{lower, is_decimal, decimal}
-use Rattle.conf_typed.specs.declared.Decimal.{Decimal}
-use Rattle.conf_typed.specs.declared.Decimal.TheVariants as dec
 
 -- bytes in lower case, or as they are
 abbrev pub cased : Bool → Bytes → Bytes
@@ -15,5 +13,5 @@ cased false bs = bs
 unfoldable pub capped : ℕ → ℕ
 capped n = pick (leb n 4294967296) n 4294967296
 
-unfoldable pub decimal_of : Bytes → Decimal
-decimal_of v = pick (is_decimal v) (dec.Number (capped (decimal v))) dec.Other
+unfoldable pub decimal_of : Bytes → Option ℕ
+decimal_of v = pick (is_decimal v) (Some (capped (decimal v))) None

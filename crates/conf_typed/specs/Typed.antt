@@ -1,5 +1,5 @@
 -- The sections and the typed settings. Each definition names its sentence of request 1 of document 02.
-use Rattle.std.specs.Prelude.{ℕ, ◌+◌, ◌*◌, ◌-◌, List, [], ◌∷◌, Bool, true, false, eqb, leb}
+use Rattle.std.specs.Prelude.{ℕ, ◌+◌, ◌*◌, ◌-◌, List, [], ◌∷◌, Bool, true, false, eqb, leb, Option, Some, None, Result, Ok, Err}
 use Prim.Native.Char.{code}
 use Prim.Native.String.{String, [] as nothing, ◌∷◌ as ◌before◌}
 use Rattle.base_laws.specs.Base.{pick, both}
@@ -7,7 +7,8 @@ use Rattle.conf_lines.specs.Lines.{Bytes, is_nil}
 use Rattle.conf_typed.specs.declared.Section.{Section}
 use Rattle.conf_typed.specs.declared.Section.TheVariants.{Server, Relay, Iolog, Eventlog, Syslog, Logfile, Unknown}
 use Rattle.conf_typed.specs.declared.Typed.{Typed}
-use Rattle.conf_typed.specs.declared.Typed.TheVariants.{Untyped, Timeout, Keepalive, Maxseq, Wrong}
+use Rattle.conf_typed.specs.declared.Typed.TheVariants.{Timeout, Keepalive, Maxseq}
+use Rattle.conf_typed.specs.declared.BadValue.{BadValue}
 
 -- ---- names
 
@@ -53,6 +54,9 @@ section_of n =
 
 -- ---- values
 
+abbrev pub bad : BadValue
+bad = record {}
+
 abbrev pub is_digit : ℕ → Bool
 is_digit b = both (leb 48 b) (leb b 57)
 
@@ -73,12 +77,12 @@ abbrev pub decimal : Bytes → ℕ
 decimal bs = decimal_from 0 bs
 
 -- "`timeout` takes 0 to 4,294,967,295"
-unfoldable pub timeout_of : Bytes → Typed
-timeout_of v = pick (both (is_decimal v) (leb (decimal v) 4294967295)) (Timeout (decimal v)) Wrong
+unfoldable pub timeout_of : Bytes → Result ℕ BadValue
+timeout_of v = pick (both (is_decimal v) (leb (decimal v) 4294967295)) (Ok (decimal v)) (Err bad)
 
 -- "decimal, cut to 2,176,782,336 and not 0"
-unfoldable pub maxseq_of : Bytes → Typed
-maxseq_of v = pick (both (is_decimal v) (leb 1 (decimal v))) (Maxseq (pick (leb (decimal v) 2176782336) (decimal v) 2176782336)) Wrong
+unfoldable pub maxseq_of : Bytes → Result ℕ BadValue
+maxseq_of v = pick (both (is_decimal v) (leb 1 (decimal v))) (Ok (pick (leb (decimal v) 2176782336) (decimal v) 2176782336)) (Err bad)
 
 -- is it one of these words
 unfoldable pub one_of : Bytes → List Bytes → Bool
@@ -92,19 +96,29 @@ says_true v = one_of v (name "true" ∷ name "yes" ∷ name "on" ∷ name "1" �
 abbrev pub says_false : Bytes → Bool
 says_false v = one_of v (name "false" ∷ name "no" ∷ name "off" ∷ name "0" ∷ [])
 
-unfoldable pub keepalive_of : Bytes → Typed
-keepalive_of v = pick (says_true v) (Keepalive true) (pick (says_false v) (Keepalive false) Wrong)
+unfoldable pub keepalive_of : Bytes → Result Bool BadValue
+keepalive_of v = pick (says_true v) (Ok true) (pick (says_false v) (Ok false) (Err bad))
+
+-- a setting with its value, with none of the typed ones, or with a bad value
+abbrev pub Reading : Type 0
+Reading = Result (Option Typed) BadValue
+
+abbrev pub read_as : {A : Type 0} → (A → Typed) → Result A BadValue → Reading
+read_as f (Ok a) = Ok (Some (f a))
+read_as f (Err e) = Err e
 
 -- "`timeout` and `tcp_keepalive` .. in `server` and `relay`"; "Unknown keys are only listed"
-unfoldable pub link_typed : (key value : Bytes) → Typed
-link_typed k v = pick (same k (name "timeout")) (timeout_of v) (pick (same k (name "tcp_keepalive")) (keepalive_of v) Untyped)
+unfoldable pub link_typed : (key value : Bytes) → Reading
+link_typed k v =
+    pick (same k (name "timeout")) (read_as Timeout (timeout_of v))
+    (pick (same k (name "tcp_keepalive")) (read_as Keepalive (keepalive_of v)) (Ok None))
 
 -- "and of `maxseq` in `iolog`"; the key in lower case
-unfoldable pub typed_of : Section → (key value : Bytes) → Typed
+unfoldable pub typed_of : Section → (key value : Bytes) → Reading
 typed_of Server k v = link_typed k v
 typed_of Relay k v = link_typed k v
-typed_of Iolog k v = pick (same k (name "maxseq")) (maxseq_of v) Untyped
-typed_of Eventlog k v = Untyped
-typed_of Syslog k v = Untyped
-typed_of Logfile k v = Untyped
-typed_of Unknown k v = Untyped
+typed_of Iolog k v = pick (same k (name "maxseq")) (read_as Maxseq (maxseq_of v)) (Ok None)
+typed_of Eventlog k v = Ok None
+typed_of Syslog k v = Ok None
+typed_of Logfile k v = Ok None
+typed_of Unknown k v = Ok None

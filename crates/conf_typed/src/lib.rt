@@ -1,16 +1,19 @@
-// The sections' names and the typed settings. Inner: spans are those of a line (conf_lines).
+// The sections' names and the typed settings. Inner: spans are those of a line (conf_lines). Each function requires it, and no type says it: a
+// span has no text of its own, and of what lies within a text no struct is plainer than the two.
 #![tactic(auto)]
 
-ghost use Rattle.std.specs.Prelude.{◌≡◌, true, [], ◌∷◌, ◌+◌, ◌*◌, ◌-◌, ◌≤◌};
+ghost use Rattle.std.specs.Prelude.{◌≡◌, true, [], ◌∷◌, ◌+◌, ◌*◌, ◌-◌, ◌≤◌, map};
 ghost use Rattle.conf_lines.specs.Span.{spanned, Within};
-ghost use Rattle.conf_typed.specs.Typed.{is_digit, same, lower_byte, lower, section_of, timeout_of, maxseq_of, one_of, keepalive_of, link_typed, typed_of};
+ghost use Rattle.conf_typed.specs.Typed.{is_digit, same, lower, section_name, section_of, timeout_of, maxseq_of, one_of, keepalive_of, link_typed, typed_of};
 ghost use Rattle.conf_typed.specs.Read.{cased, capped, decimal_of};
 
+use conf_lines::cursor::Cursor;
 use conf_lines::span::Span;
-use conf_lines::{Cursor, Step, next_byte};
+use conf_lines::{Step, next_byte};
 
-// The six sections of the paper; `Unknown` for any other, and before the first header.
-#[derive(Clone, Copy)]
+// The six sections of the paper; `Unknown` for any other, and before the first header. No `Option<Section>`: `Unknown` is a section that a text
+// can be in, and the theorems of claim_config start in it (`InOrder`).
+#[derive(Clone, Copy, Debug, PartialEq, Eq)]
 pub enum Section {
     Server,
     Relay,
@@ -21,52 +24,63 @@ pub enum Section {
     Unknown,
 }
 
-// What a setting is of the typed ones: none of them, one with its value, or one with a bad value.
+impl Section {
+    // Those that a header can name.
+    pub const NAMED: [Section; 6] = [
+        Section::Server,
+        Section::Relay,
+        Section::Iolog,
+        Section::Eventlog,
+        Section::Syslog,
+        Section::Logfile,
+    ];
+
+    #[tactic(auto, unfolding(crate::specs::Typed::section_name))]
+    pub fn name(self) -> &'static [u8]
+        ensures { result.now ≡ section_name self }
+    {
+        match self {
+            Section::Server => b"server",
+            Section::Relay => b"relay",
+            Section::Iolog => b"iolog",
+            Section::Eventlog => b"eventlog",
+            Section::Syslog => b"syslog",
+            Section::Logfile => b"logfile",
+            Section::Unknown => b"",
+        }
+    }
+}
+
+// A typed setting's value.
 #[derive(Clone, Copy)]
 pub enum Typed {
-    Untyped,
     Timeout(u64),
     Keepalive(bool),
     Maxseq(u64),
-    Wrong,
 }
 
-#[derive(Drop)]
-pub enum Decimal {
-    Number(u64),
-    Other,
-}
+// The refusal of a typed setting's value.
+#[derive(Clone, Copy, Debug, PartialEq, Eq)]
+pub struct BadValue;
 
 // ---- words
-
-fn lower_byte(b: u8) -> u8
-    ensures { result ≡ lower_byte b }
-{
-    match b {
-        b'A'..=b'Z' => b + 32,
-        _ => b,
-    }
-}
 
 // Are the bytes of a span a word's: in any case, or as they are.
 fn is_word(text: &[u8], p: Span, any_case: bool, word: &[u8]) -> bool
     requires { Within text.now p }
     ensures { result ≡ same (cased any_case (spanned text.now p)) word.now }
 {
-    let n = p.length;
-    if n != word.len() {
+    if p.length != word.len() {
         return false;
     }
-    let mut w = Cursor { at: p.at, feeds: 0 };
-    let mut i: usize = 0;
-    while i < n {
+    let mut w = Cursor::at(p.at);
+    for expected in word {
         match next_byte(text, w) {
             Step::Byte(b, next) => {
-                if cased_byte(any_case, b) != word[i] {
+                if cased_byte(any_case, b) != *expected {
                     return false;
                 }
                 w = next;
-                i += 1;
             }
             Step::End(_) => {
                 return false;
@@ -79,10 +93,7 @@ fn is_word(text: &[u8], p: Span, any_case: bool, word: &[u8]) -> bool
 pub fn cased_byte(any_case: bool, b: u8) -> u8
     ensures { cased any_case (b ∷ []) ≡ result ∷ [] }
 {
-    if any_case {
-        return lower_byte(b);
-    }
-    b
+    if any_case { b.to_ascii_lowercase() } else { b }
 }
 
 // The section that a header names.
@@ -90,177 +101,133 @@ pub fn section_of(text: &[u8], name: Span) -> Section
     requires { Within text.now name }
     ensures { result ≡ section_of (lower (spanned text.now name)) }
 {
-    if is_word(text, name, true, b"server") {
-        return Section::Server;
-    }
-    if is_word(text, name, true, b"relay") {
-        return Section::Relay;
-    }
-    if is_word(text, name, true, b"iolog") {
-        return Section::Iolog;
-    }
-    if is_word(text, name, true, b"eventlog") {
-        return Section::Eventlog;
-    }
-    if is_word(text, name, true, b"syslog") {
-        return Section::Syslog;
-    }
-    if is_word(text, name, true, b"logfile") {
-        return Section::Logfile;
+    for section in Section::NAMED {
+        if is_word(text, name, true, section.name()) {
+            return section;
+        }
     }
     Section::Unknown
 }
 
 // ---- values
 
-fn is_digit(b: u8) -> bool
-    ensures { result ≡ is_digit b }
-{
-    match b {
-        b'0'..=b'9' => true,
-        _ => false,
-    }
-}
-
 // A number with a digit more, up to 2^32.
 fn with_digit(v: u64, b: u8) -> u64
     requires { (v ≤ 4294967296) × (is_digit b ≡ true) }
     ensures { result ≡ capped (v * 10 + (b - 48)) }
 {
-    let n = v * 10 + (b - b'0') as u64;
-    if n <= 4294967296 {
-        return n;
-    }
-    4294967296
+    let n = v * 10 + u64::from(b - b'0');
+    n.min(4294967296)
 }
 
-// The number that a span's digits are, 2^32 for any above; `Other` where it is no decimal.
-fn decimal_of(text: &[u8], p: Span) -> Decimal
+// The number that a span's digits are, 2^32 for any above; none where it is no decimal.
+fn decimal_of(text: &[u8], p: Span) -> Option<u64>
     requires { Within text.now p }
     ensures { result ≡ decimal_of (spanned text.now p) }
 {
-    let n = p.length;
-    if n == 0 {
-        return Decimal::Other;
+    if p.length == 0 {
+        return None;
     }
-    let mut w = Cursor { at: p.at, feeds: 0 };
+    let mut w = Cursor::at(p.at);
     let mut v: u64 = 0;
-    let mut i: usize = 0;
-    while i < n {
+    for _i in 0..p.length {
         match next_byte(text, w) {
             Step::Byte(b, next) => {
-                if is_digit(b) {
-                    v = with_digit(v, b);
-                } else {
-                    return Decimal::Other;
+                if !b.is_ascii_digit() {
+                    return None;
                 }
+                v = with_digit(v, b);
                 w = next;
-                i += 1;
             }
             Step::End(_) => {
-                return Decimal::Other;
+                return None;
             }
         }
     }
-    Decimal::Number(v)
+    Some(v)
 }
 
-fn timeout_of(text: &[u8], v: Span) -> Typed
+fn timeout_of(text: &[u8], v: Span) -> Result<u64, BadValue>
     requires { Within text.now v }
     ensures { result ≡ timeout_of (spanned text.now v) }
 {
-    match decimal_of(text, v) {
-        Decimal::Number(n) => {
-            if n <= 4294967295 {
-                return Typed::Timeout(n);
-            }
-            Typed::Wrong
-        }
-        Decimal::Other => Typed::Wrong,
+    let Some(n) = decimal_of(text, v) else {
+        return Err(BadValue);
+    };
+    if n <= 4294967295 {
+        Ok(n)
+    } else {
+        Err(BadValue)
     }
 }
 
-fn maxseq_of(text: &[u8], v: Span) -> Typed
+fn maxseq_of(text: &[u8], v: Span) -> Result<u64, BadValue>
     requires { Within text.now v }
     ensures { result ≡ maxseq_of (spanned text.now v) }
 {
-    match decimal_of(text, v) {
-        Decimal::Number(n) => {
-            if n == 0 {
-                return Typed::Wrong;
-            }
-            if n <= 2176782336 {
-                return Typed::Maxseq(n);
-            }
-            Typed::Maxseq(2176782336)
-        }
-        Decimal::Other => Typed::Wrong,
+    let Some(n) = decimal_of(text, v) else {
+        return Err(BadValue);
+    };
+    if n == 0 {
+        return Err(BadValue);
     }
+    Ok(n.min(2176782336))
 }
 
-// Is a value one of four words, as they are.
-fn is_one_of(text: &[u8], v: Span, a: &[u8], b: &[u8], c: &[u8], d: &[u8]) -> bool
+// Is a value one of these words, as they are.
+fn is_one_of(text: &[u8], v: Span, words: &[&[u8]]) -> bool
     requires { Within text.now v }
-    ensures { result ≡ one_of (spanned text.now v) (a.now ∷ b.now ∷ c.now ∷ d.now ∷ []) }
+    ensures { result ≡ one_of (spanned text.now v) (map (λ w. w.now) words.now) }
 {
-    if is_word(text, v, false, a) {
-        return true;
-    }
-    if is_word(text, v, false, b) {
-        return true;
-    }
-    if is_word(text, v, false, c) {
-        return true;
-    }
-    if is_word(text, v, false, d) {
-        return true;
+    for word in words {
+        if is_word(text, v, false, word) {
+            return true;
+        }
     }
     false
 }
 
-fn keepalive_of(text: &[u8], v: Span) -> Typed
+fn keepalive_of(text: &[u8], v: Span) -> Result<bool, BadValue>
     requires { Within text.now v }
     ensures { result ≡ keepalive_of (spanned text.now v) }
 {
-    if is_one_of(text, v, b"true", b"yes", b"on", b"1") {
-        return Typed::Keepalive(true);
+    if is_one_of(text, v, &[b"true", b"yes", b"on", b"1"]) {
+        return Ok(true);
     }
-    if is_one_of(text, v, b"false", b"no", b"off", b"0") {
-        return Typed::Keepalive(false);
+    if is_one_of(text, v, &[b"false", b"no", b"off", b"0"]) {
+        return Ok(false);
     }
-    Typed::Wrong
+    Err(BadValue)
 }
 
-fn link_typed(text: &[u8], k: Span, v: Span) -> Typed
+// A setting of `server` or `relay`; none where it is not typed.
+fn link_typed(text: &[u8], k: Span, v: Span) -> Result<Option<Typed>, BadValue>
     requires { Within text.now k × Within text.now v }
     ensures { result ≡ link_typed (lower (spanned text.now k)) (spanned text.now v) }
 {
     if is_word(text, k, true, b"timeout") {
-        return timeout_of(text, v);
+        return Ok(Some(Typed::Timeout(timeout_of(text, v)?)));
     }
     if is_word(text, k, true, b"tcp_keepalive") {
-        return keepalive_of(text, v);
+        return Ok(Some(Typed::Keepalive(keepalive_of(text, v)?)));
     }
-    Typed::Untyped
+    Ok(None)
 }
 
-// What the setting of a key is in a section.
-pub fn typed_of(text: &[u8], section: Section, k: Span, v: Span) -> Typed
+// What the setting of a key is in a section; none where it is not typed.
+#[tactic(auto, unfolding(crate::specs::Typed::typed_of))]
+pub fn typed_of(text: &[u8], section: Section, k: Span, v: Span) -> Result<Option<Typed>, BadValue>
     requires { Within text.now k × Within text.now v }
     ensures { result ≡ typed_of section (lower (spanned text.now k)) (spanned text.now v) }
 {
     match section {
-        Section::Server => link_typed(text, k, v),
-        Section::Relay => link_typed(text, k, v),
+        Section::Server | Section::Relay => link_typed(text, k, v),
         Section::Iolog => {
             if is_word(text, k, true, b"maxseq") {
-                return maxseq_of(text, v);
+                return Ok(Some(Typed::Maxseq(maxseq_of(text, v)?)));
             }
-            Typed::Untyped
+            Ok(None)
         }
-        Section::Eventlog => Typed::Untyped,
-        Section::Syslog => Typed::Untyped,
-        Section::Logfile => Typed::Untyped,
-        Section::Unknown => Typed::Untyped,
+        Section::Eventlog | Section::Syslog | Section::Logfile | Section::Unknown => Ok(None),
     }
 }

@@ -9,7 +9,8 @@ use Rattle.base_numbers.specs.Eight.{eight}
 use Rattle.file_format.specs.Record.{Record}
 use Rattle.file_format.specs.File.{Found, whole, broken, record_at, all, records_of}
 use Rattle.file_format.specs.Head.{head_of}
-use Rattle.file_format.specs.declared.head.Head.TheVariants as head
+use Rattle.file_format.specs.declared.head.Head.{Head}
+use Rattle.std.proofs.Common.{Some, None}
 use Rattle.file_parting.specs.Parting.{parting}
 use Rattle.file_format.proofs.Found.{Short, short, broken_head, whole_head}
 use Rattle.file_compare.specs.Compare.{Difference, same, between, differences, entry_bytes}
@@ -23,34 +24,34 @@ use Rattle.file_compare.proofs.Sides.{one_each}
 
 module _ (b : List ℕ) (i j : ℕ) where
   -- the first file has no record here
-  pub alone_broken : head_of (record_at b j) ≡ head.Broken → record { entry = 16 * 4294967296; first = i; second = j } ≡ step_of i broken j (record_at b j)
+  pub alone_broken : head_of (record_at b j) ≡ None → record { entry = 16 * 4294967296; first = i; second = j } ≡ step_of i broken j (record_at b j)
   unfolding step_of entry_number at_pair past
   alone_broken e = rw (broken_head b j e)
 
-  pub alone_whole : (kind delay len : ℕ) → head_of (record_at b j) ≡ head.Whole kind delay len
-      → record { entry = 16 * 4294967296; first = i; second = j + 11 + len } ≡ step_of i broken j (record_at b j)
+  pub alone_whole : (h : Head) → head_of (record_at b j) ≡ Some h
+      → record { entry = 16 * 4294967296; first = i; second = j + 11 + h.len } ≡ step_of i broken j (record_at b j)
   unfolding step_of entry_number at_pair past
-  alone_whole kind delay len e = rw (whole_head b j kind delay len e)
+  alone_whole h e = rw (whole_head b j h e)
 
 module _ (a b : List ℕ) (i j : ℕ) where
-  pub step_alone : (st : Step) → head_of (record_at a i) ≡ head.Broken → st ≡ step_of i broken j (record_at b j) → st ≡ step_on a i b j
+  pub step_alone : (st : Step) → head_of (record_at a i) ≡ None → st ≡ step_of i broken j (record_at b j) → st ≡ step_on a i b j
   unfolding step_on
   step_alone st e q = rw (broken_head a i e) q
 
-  module _ (kind delay len : ℕ) (e : head_of (record_at a i) ≡ head.Whole kind delay len) where
+  module _ (h : Head) (e : head_of (record_at a i) ≡ Some h) where
     -- it has one, the second has none
-    pub beside_broken : head_of (record_at b j) ≡ head.Broken → record { entry = 8 * 4294967296; first = i + 11 + len; second = j } ≡ step_on a i b j
+    pub beside_broken : head_of (record_at b j) ≡ None → record { entry = 8 * 4294967296; first = i + 11 + h.len; second = j } ≡ step_on a i b j
     unfolding step_on step_of entry_number at_pair past
-    beside_broken f = rw (whole_head a i kind delay len e, broken_head b j f)
+    beside_broken f = rw (whole_head a i h e, broken_head b j f)
 
     -- both have one
-    pub beside_whole : (kind2 delay2 len2 n : ℕ) → head_of (record_at b j) ≡ head.Whole kind2 delay2 len2
-        → n ≡ entry_number (between (record_with kind delay (part a (i + 11) (i + 11 + len))) (record_with kind2 delay2 (part b (j + 11) (j + 11 + len2))))
-        → record { entry = n; first = i + 11 + len; second = j + 11 + len2 } ≡ step_on a i b j
+    pub beside_whole : (h2 : Head) (n : ℕ) → head_of (record_at b j) ≡ Some h2
+        → n ≡ entry_number (between (record_with h.kind h.delay (part a (i + 11) (i + 11 + h.len))) (record_with h2.kind h2.delay (part b (j + 11) (j + 11 + h2.len))))
+        → record { entry = n; first = i + 11 + h.len; second = j + 11 + h2.len } ≡ step_on a i b j
     unfolding step_on step_of at_pair past
-    beside_whole kind2 delay2 len2 n f q =
-        rw (whole_head a i kind delay len e, whole_head b j kind2 delay2 len2 f)
-        (ap (λ (m : ℕ). record { entry = m; first = i + 11 + len; second = j + 11 + len2 }) q)
+    beside_whole h2 n f q =
+        rw (whole_head a i h e, whole_head b j h2 f)
+        (ap (λ (m : ℕ). record { entry = m; first = i + 11 + h.len; second = j + 11 + h2.len }) q)
 
 -- ---- the walk over two files
 

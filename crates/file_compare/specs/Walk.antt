@@ -3,6 +3,7 @@
 use Rattle.std.specs.Prelude.{ℕ, ◌+◌, ◌*◌, List}
 use Rattle.file_format.specs.Record.{Record}
 use Rattle.file_format.specs.File.{Found, whole, broken, record_at}
+use Rattle.file_format.specs.declared.head.Head.{Head}
 use Rattle.file_compare.specs.Compare.{Difference, between, first_only, second_only}
 use Rattle.file_compare.specs.declared.pair.Step.{Step}
 
@@ -30,3 +31,7 @@ step_on a i b j = step_of i (record_at a i) j (record_at b j)
 
 abbrev pub record_with : ℕ → ℕ → List ℕ → Record
 record_with kind delay contents = record { kind = kind; delay = delay; contents = contents }
+
+-- the head of an accept with so many bytes of data
+abbrev pub accept_with : ℕ → Head
+accept_with len = record { kind = 1; delay = 0; len = len }

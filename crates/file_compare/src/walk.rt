@@ -17,12 +17,10 @@ pub fn lay_entries(a: &[u8], b: &[u8], count: usize, out: &mut [u8])
 {
     let mut i: usize = 0;
     let mut j: usize = 0;
-    let mut k: usize = 0;
-    while k < count {
+    for k in 0..count {
         let step = step_on(a, i, b, j);
         put(out, 8 * k, step.entry);
         i = step.first;
         j = step.second;
-        k += 1;
     }
 }

@@ -8,9 +8,9 @@ use native.Mathlib.Omega.{arith}
 use lib.ListN.{length, drop, get_or, drop_of_length-le}
 use lib.Seq.{drop-cons}
 use lib.Dec.{eqb}
-use borrow.Author.Tests.{eq-eqb, ne_eqb, eqb-true}
+use borrow.Author.Tests.{eq-eqb, ne_eqb}
 use Rattle.base_laws.specs.Base.{pick}
-use Rattle.base_laws.proofs.Order.{lt_or_le, picked}
+use Rattle.base_laws.proofs.Order.{lt_or_le}
 use Rattle.file_parting.specs.Parting.{parting, Agree}
 
 -- ---- one byte
@@ -35,12 +35,17 @@ unfolding parting
 nothing_left [] = refl
 nothing_left (b ∷ bs) = refl
 
-pub first_ends : (a b : List ℕ) (i : ℕ) → length a ≤ i → parting (drop i a) (drop i b) ≡ 0
+first_ends : (a b : List ℕ) (i : ℕ) → length a ≤ i → parting (drop i a) (drop i b) ≡ 0
 unfolding parting
 first_ends a b i h = ap (λ (x : List ℕ). parting x (drop i b)) (drop_of_length-le a h)
 
-pub second_ends : (a b : List ℕ) (i : ℕ) → length b ≤ i → parting (drop i a) (drop i b) ≡ 0
+second_ends : (a b : List ℕ) (i : ℕ) → length b ≤ i → parting (drop i a) (drop i b) ≡ 0
 second_ends a b i h = ap (parting (drop i a)) (drop_of_length-le b h) ∙ nothing_left (drop i a)
+
+pub shorter_ends : (a b : List ℕ) (i : ℕ) → min (length a) (length b) ≤ i → parting (drop i a) (drop i b) ≡ 0
+shorter_ends a b i h =
+    ⊎_elim (λ (lt : length a < length b). first_ends a b i (omega arith)) (λ (le : length b ≤ length a). second_ends a b i (omega arith))
+    (lt_or_le (length a) (length b))
 
 -- ---- blocks
 
@@ -60,16 +65,9 @@ passed a b at (suc n) h k e =
     omega (arith, i, s, p)
 
 -- one byte more of a block
-more_agree : (a b : List ℕ) (at k : ℕ) → Agree a b at k → get_or a (at + k) 0 ≡ get_or b (at + k) 0 → Agree a b at (k + 1)
+pub more_agree : (a b : List ℕ) (at k : ℕ) → Agree a b at k → get_or a (at + k) 0 ≡ get_or b (at + k) 0 → Agree a b at (k + 1)
 more_agree a b at k h e i l =
     ⊎_elim (λ (lt : i < k). h i lt) (λ (le : k ≤ i). let z : k ≡ i = omega arith in subst (λ (n : ℕ). get_or a (at + n) 0 ≡ get_or b (at + n) 0) z e) (lt_or_le i k)
-
--- where nothing is noted after one byte more, nothing was noted before the block and it agrees that far
-pub noted_more : (a b : List ℕ) (at k d n : ℕ) → (n ≡ 0 → (d ≡ 0) × Agree a b at k) → pick (eqb (get_or a (at + k) 0) (get_or b (at + k) 0)) n 1 ≡ 0
-    → (d ≡ 0) × Agree a b at (k + 1)
-noted_more a b at k d n h =
-    picked (λ (m : ℕ). m ≡ 0 → (d ≡ 0) × Agree a b at (k + 1)) (eqb (get_or a (at + k) 0) (get_or b (at + k) 0)) n 1
-    (λ t z. ((h z).0, more_agree a b at k (h z).1 (eqb-true (get_or a (at + k) 0) (get_or b (at + k) 0) t))) (λ t z. absurd (omega arith))
 
 -- ---- blocks laid over each other
 
@@ -100,7 +98,4 @@ from_there a b i at f h k m =
 pub at_the_end : (a b : List ℕ) (n : ℕ) → n ≡ min (length a) (length b) → Agree a b 0 n → n ≡ parting a b
 at_the_end a b n e f =
     let p = from_there a b n n f (omega arith) (omega arith) (omega arith) in
-    let z : parting (drop n a) (drop n b) ≡ 0 =
-    ⊎_elim (λ (lt : length a < length b). first_ends a b n (omega arith)) (λ (le : length b ≤ length a). second_ends a b n (omega arith))
-    (lt_or_le (length a) (length b)) in
-    omega (arith, p, z)
+    omega (arith, p, shorter_ends a b n (omega arith))

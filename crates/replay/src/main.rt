@@ -27,49 +27,31 @@ fn refill(input: &mut Stdin, window: &mut [u8], from: usize, held: usize) -> io:
 }
 
 // Takes the frames that stand in the window, and reads on where more bytes are needed. Nothing says that an input ends, so the
-// loop counts its turns down, from a number that no run uses up.
+// loop counts its turns, up to a number that no run reaches.
+#[tactic(auto, unfolding(replay_window::specs::Window::FrameWithin))]
 fn run(input: &mut Stdin, output: &mut Stdout, window: &mut [u8], area: &mut [u8], out: &mut [u8]) {
     let mut re = start();
     let mut from: usize = 0;
     let mut held: usize = 0;
-    let mut turns = u64::MAX;
-    while turns > 0 {
-        turns -= 1;
+    'turns: for _ in 0..u64::MAX {
         let t = turn(re, &window[from..held], window.len(), area, out);
-        let n = t.line;
-        if output.write_all(&out[..n]).is_err() {
+        if output.write_all(&out[..t.line]).is_err() {
             return;
         }
         re = t.replay;
-        let next = t.next;
-        match next {
-            Next::Frame { size } => {
-                from += size;
-            }
+        match t.next {
+            Next::Frame { size } => from += size,
             Next::Wait => {
                 let got = refill(input, window, from, held);
                 held -= from;
                 from = 0;
                 match got {
-                    Err(_) => {
-                        finish(output, out, re.frames, End::Unread);
-                        return;
-                    }
-                    Ok(0) => {
-                        finish(output, out, re.frames, End::Input { left: held });
-                        return;
-                    }
-                    Ok(more) => {
-                        held += more;
-                    }
+                    Err(_) => return finish(output, out, re.frames, End::Unread),
+                    Ok(0) => return finish(output, out, re.frames, End::Input { left: held }),
+                    Ok(more) => held += more,
                 }
             }
-            Next::Beyond { size: _ } => {
-                return;
-            }
-            Next::Refused => {
-                return;
-            }
+            Next::Beyond { .. } | Next::Refused => return,
         }
     }
 }

@@ -1,13 +1,11 @@
 -- Lines in a lent buffer. Assumes nothing.
-use Prim.Native.Nat.{ℕ, ◌≤◌, ◌<◌}
+use Prim.Native.Nat.{ℕ, ◌≤◌}
 use native.Mathlib.Omega.{arith}
 use mathlib.Core.Path.{◌≡◌, refl}
 use mathlib.Core.List.{List, []}
 use mathlib.Core.Bool.{Bool, true, false}
 use lib.ListN.{length}
 use lib.Dec.{leb}
-use borrow.Author.Tests.{le-leb, lt-leb}
-use Rattle.base_copy.specs.Put.{Put}
 use Rattle.base_copy.proofs.Puts.{nothing}
 use Rattle.session.specs.Step.{outcome}
 use Rattle.session.specs.declared.Answer.{Answer}
@@ -16,14 +14,6 @@ use Rattle.replay_lines.specs.Wording.{frame_line, written, line_length}
 -- what a function that writes a line answers: the buffer afterwards and the line's length
 abbrev pub Answers : List ℕ → List ℕ → List ℕ → ℕ → Type 0
 Answers line out out' r = (out' ≡ written line out) × ((r ≡ line_length line out) × (r ≤ length out))
-
-pub room : {line out out' : List ℕ} {r : ℕ} → 256 ≤ length out → Put out 0 line out' r → Answers line out out' r
-unfolding written line_length
-room {line} {out} {out'} {r} h p = rw (le-leb 256 (length out) h) (p.list, (omega arith, omega arith))
-
-pub no_room : (line out : List ℕ) → length out < 256 → Answers line out out 0
-unfolding written line_length
-no_room line out h = rw (lt-leb 256 (length out) h) (refl, (refl, omega arith))
 
 -- no line: nothing is written
 pub silent : (out : List ℕ) → Answers [] out out 0

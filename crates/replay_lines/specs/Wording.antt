@@ -1,10 +1,8 @@
 -- The line that `replay` prints of a frame, as bytes. Texts in quotes are the page's wording (docs/DECISIONS.md, replay).
-use Rattle.std.specs.Prelude.{ℕ, ◌/◌, ◌%◌, List, [], ◌++◌, Bool, length, leb, eqb}
+use Rattle.std.specs.Prelude.{ℕ, ◌/◌, ◌%◌, List, [], ◌++◌, Bool, Option, Some, None, length, leb, eqb}
 use Rattle.base_laws.specs.Base.{pick, splice}
 use Rattle.session.specs.Step.{Outcome}
 use Rattle.session_turn.specs.declared.State.{State}
-use Rattle.session.specs.declared.Point.{Point}
-use Rattle.session.specs.declared.Point.TheVariants as point
 use Rattle.replay_text.specs.Words.{text, decimal, nine}
 use Rattle.replay_text.specs.Names.{member_name, state_name}
 
@@ -22,9 +20,9 @@ abbrev pub standing : State → ℕ → List ℕ
 standing state used = text ", " ++ state_name state ++ text ", used " ++ decimal used
 
 -- the commit point, which an exit in logging has
-unfoldable pub point_text : Point → List ℕ
-point_text point.Absent = []
-point_text (point.At t) = text ", commit point " ++ decimal (t / 1000000000) ++ text "." ++ nine (t % 1000000000)
+unfoldable pub point_text : Option ℕ → List ℕ
+point_text None = []
+point_text (Some t) = text ", commit point " ++ decimal (t / 1000000000) ++ text "." ++ nine (t % 1000000000)
 
 -- the missing key that refusal 8 names
 unfoldable pub key_text : ℕ → ℕ → List ℕ

@@ -8,7 +8,7 @@ use base_copy::put_raw;
 use replay_text::numbers::put_decimal;
 
 // What a replay ends with.
-#[derive(Drop)]
+#[derive(Clone, Copy)]
 pub enum End {
     // the input's end, with bytes that are no whole frame
     Input { left: usize },
@@ -56,13 +56,15 @@ fn put_end(out: &mut [u8], n: u64, end: End) -> usize
 }
 
 // The last line, after n frames, and its length.
+#[tactic(auto, using(base_laws::proofs::Tests::tests), unfolding(crate::specs::Wording::written, crate::specs::Wording::line_length))]
 pub fn end_line(out: &mut [u8], n: u64, end: End) -> usize
     ensures line { out.new ≡ written (end_line n end) out.old }
     ensures size { result ≡ line_length (end_line n end) out.old }
     ensures within { result ≤ length out.old }
 {
     if 256 <= out.len() {
-        return put_end(out, n, end);
+        put_end(out, n, end)
+    } else {
+        0
     }
-    0
 }

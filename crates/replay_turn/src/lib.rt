@@ -15,7 +15,7 @@ use session::{Session, open};
 use session_step::message;
 
 // What a replay carries from frame to frame: the session, the used length that it last answered, how many frames it was handed.
-#[derive(Drop)]
+#[derive(Clone, Copy)]
 pub struct Replay {
     pub session: Session,
     pub used: usize,
@@ -23,7 +23,7 @@ pub struct Replay {
 }
 
 // What a turn gives: the replay afterwards, the decision, and the length of the line in the lent buffer.
-#[derive(Drop)]
+#[derive(Clone, Copy)]
 pub struct Shown {
     pub replay: Replay,
     pub next: Next,
@@ -33,25 +33,16 @@ pub struct Shown {
 pub fn start() -> Replay
     ensures { result ≡ t.started }
 {
-    let session = open();
     Replay {
-        session,
+        session: open(),
         used: 0,
         frames: 0,
     }
 }
 
-fn counted(n: u64) -> u64
-    ensures { result ≡ t.frame_counted n }
-{
-    if n < 18446744073709551615 {
-        return n + 1;
-    }
-    n
-}
-
 // One decision on the bytes at hand, s, which a window of this size holds: a whole frame is handed to the session, and its line,
 // or the last one, is written to `out`.
+#[tactic(auto, using(replay_lines::proofs::Lines::silent), unfolding(replay_window::specs::Window::FrameWithin, crate::specs::Turn::turned, crate::specs::Turn::by_next))]
 pub fn turn(re: Replay, s: &[u8], window: usize, area: &mut [u8], out: &mut [u8]) -> Shown
     ensures replay { result.replay ≡ (turned re s.now window area.old).replay }
     ensures next { result.next ≡ (turned re s.now window area.old).next }
@@ -67,14 +58,12 @@ pub fn turn(re: Replay, s: &[u8], window: usize, area: &mut [u8], out: &mut [u8]
             line: 0,
         },
         Next::Frame { size } => {
-            let session = re.session;
-            let answer = message(session, &s[4..size], area, re.used);
-            let frames = counted(re.frames);
+            let answer = message(re.session, &s[4..size], area, re.used);
+            let frames = re.frames.saturating_add(1);
             let line = frame_line(out, frames, &s[4..size], answer);
-            let after = answer.session;
             Shown {
                 replay: Replay {
-                    session: after,
+                    session: answer.session,
                     used: answer.used,
                     frames,
                 },

@@ -1,4 +1,5 @@
 -- A message leaves a session's numbers within their limits.
+use Rattle.std.specs.Prelude.{Option, Some, None}
 use Prim.Native.Nat.{ℕ, ◌+◌, ◌-◌, ◌≤◌, ◌<◌}
 use native.Mathlib.Omega.{arith}
 use mathlib.Core.Path.{◌≡◌, refl}
@@ -18,8 +19,6 @@ use Rattle.file_format.specs.File.{limit, Records, all, none, records_of, file_b
 use Rattle.file_format.proofs.Beginnings.{low_found, low_none}
 use Rattle.file_format.proofs.Restarts.{keep_total}
 use Rattle.session_turn.specs.Turn.{turn}
-use Rattle.session_turn.specs.declared.Turn.{Turn}
-use Rattle.session_turn.specs.declared.Turn.TheVariants.{To, NotNow}
 use Rattle.session.specs.Step.{Outcome, moment, accept_record, in_state, grown, lengths_fit, growth_refusal, refuse, room_for, timed}
 use Rattle.session.specs.Step.{entries_first, accept_stored, on_accept, on_reject, exit_stored, on_exit, resumed, by_kind, of_records, on_restart, act, in_turn, on_reading, step}
 use Rattle.session.proofs.Moments.{moment_most, point_fits}
@@ -29,7 +28,6 @@ use Rattle.session.proofs.Timed.{growth_fits}
 use Rattle.session_turn.specs.declared.State.{State}
 use Rattle.session_turn.specs.declared.State.TheVariants.{New, Greeted, Logging, EventsOnly, Closed}
 use Rattle.session.specs.declared.Session.{Session}
-use Rattle.session.specs.declared.Mark.TheVariants as mark
 use Rattle.session_bytes.specs.Sound.{MarkSound, Sound}
 use Rattle.session_bytes.proofs.Files.{kept_within}
 
@@ -71,7 +69,7 @@ module _ (se : Session) (h : Sound se) (area : Bytes) (used : ℕ) where
     used = end_fits se area used se.used l r m;
     total = t;
     low = picked (λ (n : ℕ). n ≤ limit) (eqb r.delay 0) se.low se.total (λ _. h.low) (λ _. h.total);
-    mark = picked MarkSound (eqb r.delay 0) se.mark mark.Nothing (λ _. h.mark) (λ _. tt);
+    mark = picked MarkSound (eqb r.delay 0) se.mark None (λ _. h.mark) (λ _. tt);
   }
 
   timed_sound : (fits : Bool) (r : Record) → After (timed se area used fits r)
@@ -175,10 +173,10 @@ module _ (se : Session) (h : Sound se) (area : Bytes) (used : ℕ) where
   act_sound st d (suspend_event s) = timed_sound (suspend_fits s) _
   act_sound st d (hello_msg d') = in_state_lem st
 
-  turn_sound : (t : Turn) (d : Bytes) (c : Client) → After (in_turn se area used t d c)
+  turn_sound : (t : Option State) (d : Bytes) (c : Client) → After (in_turn se area used t d c)
   unfolding in_turn
-  turn_sound (To st) d c = act_sound st d c
-  turn_sound NotNow d c = refused_sound 9 0
+  turn_sound (Some st) d c = act_sound st d c
+  turn_sound None d c = refused_sound 9 0
 
   reading_sound : (d : Bytes) (r : Reading Client) → After (on_reading se area used d r)
   unfolding on_reading

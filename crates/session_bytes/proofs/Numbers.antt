@@ -1,4 +1,5 @@
 -- A session and the numbers that it is kept as.
+use Rattle.std.specs.Prelude.{Option, Some, None}
 use Prim.Native.Nat.{ℕ, ◌+◌, ◌-◌, ◌≤◌, ◌<◌}
 use native.Mathlib.Omega.{arith}
 use mathlib.Core.Path.{◌≡◌, refl, sym, ap, ◌∙◌}
@@ -16,8 +17,6 @@ use Rattle.file_format.specs.File.{limit}
 use Rattle.file_format.proofs.Times.{cases}
 use Rattle.session_turn.specs.declared.State.{State}
 use Rattle.session_turn.specs.declared.State.TheVariants.{New, Greeted, Logging, EventsOnly, Closed}
-use Rattle.session.specs.declared.Mark.{Mark}
-use Rattle.session.specs.declared.Mark.TheVariants as mark
 use Rattle.session.specs.declared.Session.{Session}
 use Rattle.session_bytes.specs.Saved.{state_number, mark_number, mark_point, session_numbers, session_bytes, closed, saved_state, saved_mark, are_session, from_numbers, session_of}
 use Rattle.session_bytes.specs.Sound.{MarkSound, Sound}
@@ -25,30 +24,30 @@ use Rattle.session_bytes.proofs.Slices.{number_most}
 
 -- ---- a sound session reads back
 
-abbrev made : State → Mark → ℕ → ℕ → ℕ → Session
+abbrev made : State → Option ℕ → ℕ → ℕ → ℕ → Session
 made st m used total low = record { state = st; used = used; total = total; low = low; mark = m }
 
 module _ (used total low : ℕ) (hu : used ≤ 1073741824) (ht : total ≤ limit) (hl : low ≤ limit) where
   within : (t : ℕ) → t ≤ limit → both (leb used 1073741824) (both (leb total limit) (both (leb low limit) (leb t limit))) ≡ true
   within t h = rw (le-leb used 1073741824 hu, le-leb total limit ht, le-leb low limit hl) (le-leb t limit h)
 
-  from_session : (st : State) (m : Mark) → MarkSound m → from_numbers (state_number st + mark_number m) used total low (mark_point m) ≡ made st m used total low
+  from_session : (st : State) (m : Option ℕ) → MarkSound m → from_numbers (state_number st + mark_number m) used total low (mark_point m) ≡ made st m used total low
   unfolding from_numbers are_session state_number mark_number mark_point saved_state saved_mark
-  from_session New mark.Nothing h = rw (within 0 (omega arith))
-  from_session Greeted mark.Nothing h = rw (within 0 (omega arith))
-  from_session Logging mark.Nothing h = rw (within 0 (omega arith))
-  from_session EventsOnly mark.Nothing h = rw (within 0 (omega arith))
-  from_session Closed mark.Nothing h = rw (within 0 (omega arith))
-  from_session New (mark.At t) h = rw (within t h)
-  from_session Greeted (mark.At t) h = rw (within t h)
-  from_session Logging (mark.At t) h = rw (within t h)
-  from_session EventsOnly (mark.At t) h = rw (within t h)
-  from_session Closed (mark.At t) h = rw (within t h)
+  from_session New None h = rw (within 0 (omega arith))
+  from_session Greeted None h = rw (within 0 (omega arith))
+  from_session Logging None h = rw (within 0 (omega arith))
+  from_session EventsOnly None h = rw (within 0 (omega arith))
+  from_session Closed None h = rw (within 0 (omega arith))
+  from_session New (Some t) h = rw (within t h)
+  from_session Greeted (Some t) h = rw (within t h)
+  from_session Logging (Some t) h = rw (within t h)
+  from_session EventsOnly (Some t) h = rw (within t h)
+  from_session Closed (Some t) h = rw (within t h)
 
-point_most : (m : Mark) → MarkSound m → mark_point m ≤ limit
+point_most : (m : Option ℕ) → MarkSound m → mark_point m ≤ limit
 unfolding mark_point
-point_most mark.Nothing h = omega arith
-point_most (mark.At t) h = h
+point_most None h = omega arith
+point_most (Some t) h = h
 
 pub forty : (se : Session) → length (session_bytes se) ≡ 40
 unfolding session_bytes session_numbers eights
@@ -133,7 +132,7 @@ closed_sound = record { used = omega arith; total = omega arith; low = omega ari
 
 mark_sound : (n t : ℕ) → t ≤ limit → MarkSound (saved_mark n t)
 unfolding saved_mark
-mark_sound n t h = picked MarkSound (leb 8 n) (mark.At t) mark.Nothing (λ _. h) (λ _. tt)
+mark_sound n t h = picked MarkSound (leb 8 n) (Some t) None (λ _. h) (λ _. tt)
 
 from_sound : (n used total low t : ℕ) → Sound (from_numbers n used total low t)
 unfolding from_numbers are_session

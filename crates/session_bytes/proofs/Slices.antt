@@ -1,4 +1,5 @@
 -- The numbers in a slice of 40 bytes.
+use Rattle.std.specs.Prelude.{Option, Some, None}
 use Prim.Native.Nat.{ℕ, ◌+◌, ◌≤◌}
 use native.Mathlib.Omega.{arith}
 use mathlib.Core.Path.{◌≡◌, sym, ap, ◌∙◌}
@@ -11,8 +12,6 @@ use Rattle.base_laws.specs.Base.{pick, splice}
 use Rattle.base_numbers.specs.Eight.{eights, laid, number_at}
 use Rattle.session_turn.specs.declared.State.{State}
 use Rattle.session_turn.specs.declared.State.TheVariants.{New, Greeted, Logging, EventsOnly, Closed}
-use Rattle.session.specs.declared.Mark.{Mark}
-use Rattle.session.specs.declared.Mark.TheVariants as mark
 use Rattle.session.specs.declared.Session.{Session}
 use Rattle.session_bytes.specs.Saved.{state_number, mark_number, mark_point, session_numbers, session_bytes, kept, closed, from_numbers, session_of}
 
@@ -54,12 +53,12 @@ state_most Logging = omega arith
 state_most EventsOnly = omega arith
 state_most Closed = omega arith
 
-mark_most : (m : Mark) → mark_number m ≤ 8
+mark_most : (m : Option ℕ) → mark_number m ≤ 8
 unfolding mark_number
-mark_most mark.Nothing = omega arith
-mark_most (mark.At t) = omega arith
+mark_most None = omega arith
+mark_most (Some t) = omega arith
 
-pub number_most : (st : State) (m : Mark) (a b : ℕ) → a ≡ state_number st → b ≡ mark_number m → a + b ≤ 12
+pub number_most : (st : State) (m : Option ℕ) (a b : ℕ) → a ≡ state_number st → b ≡ mark_number m → a + b ≤ 12
 number_most st m a b p q = omega (arith, state_most st, mark_most m)
 
 -- numbers laid over a whole slice

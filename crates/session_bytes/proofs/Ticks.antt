@@ -1,4 +1,5 @@
 -- A tick of a sound session has no point above the limit, whatever slice it was read from.
+use Rattle.std.specs.Prelude.{Option, Some, None}
 use Prim.Native.Nat.{ℕ, ◌≤◌}
 use mathlib.Core.List.{List}
 use lib.Dec.{eqb}
@@ -8,24 +9,20 @@ use Rattle.session.specs.Step.{logging_point, point_in, tick}
 use Rattle.session_turn.specs.declared.State.{State}
 use Rattle.session_turn.specs.declared.State.TheVariants.{New, Greeted, Logging, EventsOnly, Closed}
 use Rattle.session.specs.declared.Session.{Session}
-use Rattle.session.specs.declared.Mark.{Mark}
-use Rattle.session.specs.declared.Mark.TheVariants as mark
-use Rattle.session.specs.declared.Point.{Point}
-use Rattle.session.specs.declared.Point.TheVariants as point
 use Rattle.session_bytes.specs.Saved.{session_of}
 use Rattle.session_bytes.specs.Sound.{MarkSound, Sound}
 use Rattle.session_bytes.proofs.Numbers.{loaded_sound}
 
-abbrev pub PointSound : Point → Type 0
-PointSound point.Absent = Unit
-PointSound (point.At t) = t ≤ limit
+abbrev pub PointSound : Option ℕ → Type 0
+PointSound None = Unit
+PointSound (Some t) = t ≤ limit
 
-logging_sound : (m : Mark) (total low : ℕ) → MarkSound m → low ≤ limit → PointSound (logging_point m total low)
+logging_sound : (m : Option ℕ) (total low : ℕ) → MarkSound m → low ≤ limit → PointSound (logging_point m total low)
 unfolding logging_point
-logging_sound (mark.At t) total low h l = h
-logging_sound mark.Nothing total low h l = picked PointSound (eqb total 0) point.Absent (point.At low) (λ _. tt) (λ _. l)
+logging_sound (Some t) total low h l = h
+logging_sound None total low h l = picked PointSound (eqb total 0) None (Some low) (λ _. tt) (λ _. l)
 
-in_state_sound : (st : State) (p : Point) → PointSound p → PointSound (point_in st p)
+in_state_sound : (st : State) (p : Option ℕ) → PointSound p → PointSound (point_in st p)
 unfolding point_in
 in_state_sound New p h = tt
 in_state_sound Greeted p h = tt

@@ -2,14 +2,12 @@
 --   0  the state: 0 new, 1 greeted, 2 logging, 3 events only, 4 closed; 8 more while the point of a restart stands
 --   8  the used length      16  the total      24  the greatest lower total      32  the restart's point, 0 where none stands
 -- Totals and points are in nanoseconds.
-use Rattle.std.specs.Prelude.{ℕ, ◌+◌, ◌-◌, List, [], ◌∷◌, Bool, length, leb, eqb}
+use Rattle.std.specs.Prelude.{ℕ, ◌+◌, ◌-◌, List, [], ◌∷◌, Bool, length, leb, eqb, Option, Some, None}
 use Rattle.base_laws.specs.Base.{pick, both}
 use Rattle.base_numbers.specs.Eight.{eights, number_at}
 use Rattle.file_format.specs.File.{limit}
 use Rattle.session_turn.specs.declared.State.{State}
 use Rattle.session_turn.specs.declared.State.TheVariants.{New, Greeted, Logging, EventsOnly, Closed}
-use Rattle.session.specs.declared.Mark.{Mark}
-use Rattle.session.specs.declared.Mark.TheVariants as mark
 use Rattle.session.specs.declared.Session.{Session}
 
 -- ---- from a session to its bytes
@@ -21,13 +19,13 @@ state_number Logging = 2
 state_number EventsOnly = 3
 state_number Closed = 4
 
-unfoldable pub mark_number : Mark → ℕ
-mark_number mark.Nothing = 0
-mark_number (mark.At t) = 8
+unfoldable pub mark_number : Option ℕ → ℕ
+mark_number None = 0
+mark_number (Some t) = 8
 
-unfoldable pub mark_point : Mark → ℕ
-mark_point mark.Nothing = 0
-mark_point (mark.At t) = t
+unfoldable pub mark_point : Option ℕ → ℕ
+mark_point None = 0
+mark_point (Some t) = t
 
 unfoldable pub session_numbers : Session → List ℕ
 session_numbers se = (state_number se.state + mark_number se.mark) ∷ se.used ∷ se.total ∷ se.low ∷ mark_point se.mark ∷ []
@@ -43,14 +41,14 @@ kept se slice = pick (eqb (length slice) 40) (session_bytes se) slice
 
 -- what stands for bytes that are no session
 abbrev pub closed : Session
-closed = record { state = Closed; used = 0; total = 0; low = 0; mark = mark.Nothing }
+closed = record { state = Closed; used = 0; total = 0; low = 0; mark = None }
 
 unfoldable pub saved_state : ℕ → State
 saved_state n = pick (eqb n 0) New (pick (eqb n 1) Greeted (pick (eqb n 2) Logging (pick (eqb n 3) EventsOnly Closed)))
 
 -- 8 and more says that the point stands
-unfoldable pub saved_mark : ℕ → ℕ → Mark
-saved_mark n t = pick (leb 8 n) (mark.At t) mark.Nothing
+unfoldable pub saved_mark : ℕ → ℕ → Option ℕ
+saved_mark n t = pick (leb 8 n) (Some t) None
 
 -- are the numbers those of a session: each within document 01's limits, and no point where none stands
 unfoldable pub are_session : ℕ → ℕ → ℕ → ℕ → ℕ → Bool

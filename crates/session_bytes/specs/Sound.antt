@@ -1,15 +1,13 @@
 -- What keeping a session as bytes leaves unchanged: a session that a host carries from call to call as 40 bytes is the session.
-use Rattle.std.specs.Prelude.{ℕ, ◌≤◌, ◌<◌, ◌≡◌, List, ◌⊎◌, length, get_or}
+use Rattle.std.specs.Prelude.{ℕ, ◌≤◌, ◌<◌, ◌≡◌, List, ◌⊎◌, length, get_or, Option, Some, None}
 use Rattle.file_format.specs.File.{limit}
 use Rattle.session.specs.Step.{new_session, step}
 use Rattle.session.specs.declared.Session.{Session}
-use Rattle.session.specs.declared.Mark.{Mark}
-use Rattle.session.specs.declared.Mark.TheVariants as mark
 use Rattle.session_bytes.specs.Saved.{session_bytes, session_of, closed}
 
-abbrev pub MarkSound : Mark → Type 0
-MarkSound mark.Nothing = Unit
-MarkSound (mark.At t) = t ≤ limit
+abbrev pub MarkSound : Option ℕ → Type 0
+MarkSound None = Unit
+MarkSound (Some t) = t ≤ limit
 
 -- a session whose numbers are within document 01's limits
 pub record Sound (se : Session) : Type 0 where

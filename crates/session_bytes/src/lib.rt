@@ -7,9 +7,9 @@ ghost use Rattle.file_format.specs.File.{limit};
 ghost use Rattle.session_bytes.specs.Saved as s;
 ghost use Rattle.session_bytes.specs.Saved.{state_number, mark_number, mark_point, session_of, saved_state, saved_mark, are_session, from_numbers, kept};
 
-use base_numbers::{lay_five, number_at};
+use base_numbers::{lay, number_at};
 use file_format::LIMIT;
-use session::{Mark, Session};
+use session::Session;
 use session_turn::State;
 
 // The length of the longest area.
@@ -17,35 +17,26 @@ const AREA_LIMIT: u64 = 1073741824;
 
 // ---- from a session to its numbers
 
+#[tactic(auto, unfolding(crate::specs::Saved::state_number))]
 pub fn state_number(state: State) -> u64
     ensures { result ≡ state_number state }
 {
-    match state {
-        State::New => 0,
-        State::Greeted => 1,
-        State::Logging => 2,
-        State::EventsOnly => 3,
-        State::Closed => 4,
-    }
+    state as u64
 }
 
 // What a restart's point adds to the state's number.
-fn mark_number(mark: Mark) -> u64
+#[tactic(auto, unfolding(crate::specs::Saved::mark_number))]
+fn mark_number(mark: Option<u64>) -> u64
     ensures { result ≡ mark_number mark }
 {
-    match mark {
-        Mark::Nothing => 0,
-        Mark::At(_) => 8,
-    }
+    mark.map_or(0, |_| 8)
 }
 
-fn mark_point(mark: Mark) -> u64
+#[tactic(auto, unfolding(crate::specs::Saved::mark_point))]
+fn mark_point(mark: Option<u64>) -> u64
     ensures { result ≡ mark_point mark }
 {
-    match mark {
-        Mark::Nothing => 0,
-        Mark::At(t) => t,
-    }
+    mark.unwrap_or(0)
 }
 
 // ---- from numbers to the session
@@ -59,97 +50,69 @@ fn closed() -> Session
         used: 0,
         total: 0,
         low: 0,
-        mark: Mark::Nothing,
+        mark: None,
     }
 }
 
+#[tactic(auto, unfolding(crate::specs::Saved::saved_state))]
 fn state_of(n: u64) -> State
     ensures { result ≡ saved_state n }
 {
-    if n == 0 {
-        return State::New;
+    match n {
+        0 => State::New,
+        1 => State::Greeted,
+        2 => State::Logging,
+        3 => State::EventsOnly,
+        _ => State::Closed,
     }
-    if n == 1 {
-        return State::Greeted;
-    }
-    if n == 2 {
-        return State::Logging;
-    }
-    if n == 3 {
-        return State::EventsOnly;
-    }
-    State::Closed
 }
 
 // The state's number without what a restart's point added.
 fn without_mark(n: u64) -> u64
     ensures { result ≡ pick (leb 8 n) (n - 8) n }
 {
-    if 8 <= n {
-        return n - 8;
-    }
-    n
+    if 8 <= n { n - 8 } else { n }
 }
 
-fn mark_of(n: u64, t: u64) -> Mark
+#[tactic(auto, unfolding(crate::specs::Saved::saved_mark))]
+fn mark_of(n: u64, t: u64) -> Option<u64>
     ensures { result ≡ saved_mark n t }
 {
-    if 8 <= n {
-        return Mark::At(t);
-    }
-    Mark::Nothing
+    (8 <= n).then_some(t)
 }
 
 // Is the first number a state's, and a point given only where it says that one stands.
 fn is_state(n: u64, t: u64) -> bool
     ensures { result ≡ pick (leb 8 n) (leb n 12) (both (leb n 4) (eqb t 0)) }
 {
-    if 8 <= n {
-        return n <= 12;
-    }
-    if n <= 4 {
-        return t == 0;
-    }
-    false
+    if 8 <= n { n <= 12 } else { n <= 4 && t == 0 }
 }
 
 // Are the other numbers within their limits.
 fn are_within(used: u64, total: u64, low: u64, t: u64) -> bool
     ensures { result ≡ both (leb used 1073741824) (both (leb total limit) (both (leb low limit) (leb t limit))) }
 {
-    if AREA_LIMIT < used {
-        return false;
-    }
-    if LIMIT < total {
-        return false;
-    }
-    if LIMIT < low {
-        return false;
-    }
-    t <= LIMIT
+    used <= AREA_LIMIT && total <= LIMIT && low <= LIMIT && t <= LIMIT
 }
 
+#[tactic(auto, unfolding(crate::specs::Saved::are_session))]
 fn are_session(n: u64, used: u64, total: u64, low: u64, t: u64) -> bool
     ensures { result ≡ are_session n used total low t }
 {
-    if is_state(n, t) {
-        return are_within(used, total, low, t);
-    }
-    false
+    is_state(n, t) && are_within(used, total, low, t)
 }
 
+#[tactic(auto, unfolding(crate::specs::Saved::from_numbers))]
 fn from_numbers(n: u64, used: u64, total: u64, low: u64, t: u64) -> Session
     ensures { result ≡ from_numbers n used total low t }
 {
     if are_session(n, used, total, low, t) {
-        let state = state_of(without_mark(n));
-        let mark = mark_of(n, t);
         return Session {
-            state,
+            state: state_of(without_mark(n)),
             used: used as usize,
             total,
             low,
-            mark,
+            mark: mark_of(n, t),
         };
     }
     closed()
@@ -179,15 +142,15 @@ pub fn save(slice: &mut [u8], se: Session) -> bool
     ensures slice { slice.new ≡ kept se slice.old }
 {
     if slice.len() == 40 {
-        let mark = se.mark;
-        let state = se.state;
-        return lay_five(
+        return lay(
             slice,
-            state_number(state) + mark_number(mark),
-            se.used as u64,
-            se.total,
-            se.low,
-            mark_point(mark),
+            &[
+                state_number(se.state) + mark_number(se.mark),
+                se.used as u64,
+                se.total,
+                se.low,
+                mark_point(se.mark),
+            ],
         );
     }
     false

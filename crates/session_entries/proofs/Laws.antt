@@ -1,16 +1,16 @@
 -- Laws of the search for required entries.
-use Prim.Native.Nat.{ℕ, suc, ◌+◌, ◌≤◌, ◌<◌}
-use native.Mathlib.Numerals.{add-one}
+use Prim.Native.Nat.{ℕ, suc, ◌+◌}
 use mathlib.Core.Path.{◌≡◌, refl, sym, ap, ◌∙◌}
 use mathlib.Core.List.{List, [], ◌∷◌, map}
 use mathlib.Core.Bool.{Bool, true, false}
-use lib.ListN.{length, drop, get_or, drop_of_length-le}
-use lib.Seq.{drop-cons}
+use lib.ListN.{length}
 use lib.Dec.{eqb}
+use Rattle.std.specs.Prelude.{bytes_eq, ◌&&◌}
 use Rattle.base_laws.specs.Base.{pick, both, part}
 use Rattle.wire_fields.specs.Fields.{fields_at, first_of}
 use Rattle.wire_fields.specs.Items.{items}
-use Rattle.wire_fields.specs.declared.Found.TheVariants as found
+use Rattle.std.specs.Prelude.{Some, None}
+use Rattle.wire_types.specs.declared.Span.{Span}
 use Rattle.wire_elements.specs.Elements.{elements_at}
 use Rattle.wire_elements.proofs.Elements.{all_elements, found_none, found_part}
 use Rattle.wire_message.specs.Message.{Bytes, Value, Entry, entry, entries}
@@ -18,17 +18,17 @@ use Rattle.session_entries.specs.Required.{same_bytes, key_bytes, last_value_fro
 
 -- ---- the same bytes
 
-next_drop : (l : List ℕ) (i : ℕ) → i < length l → drop i l ≡ get_or l i 0 ∷ drop (i + 1) l
-next_drop l i h = drop-cons l i 0 h ∙ ap (λ (n : ℕ). get_or l i 0 ∷ drop n l) (sym (add-one i))
-
-pub same_step : (a b : List ℕ) (i : ℕ) → i < length a → i < length b
-    → same_bytes (drop i a) (drop i b) ≡ both (eqb (get_or a i 0) (get_or b i 0)) (same_bytes (drop (i + 1) a) (drop (i + 1) b))
+-- what `==` says of two slices
+pub same_is : (a b : List ℕ) → bytes_eq a b ≡ same_bytes a b
 unfolding same_bytes
-same_step a b i h l = ap (λ (x : List ℕ). same_bytes x (drop i b)) (next_drop a i h) ∙ ap (same_bytes (get_or a i 0 ∷ drop (i + 1) a)) (next_drop b i l)
-
-pub same_done : (a b : List ℕ) (i : ℕ) → length a ≤ i → length b ≤ i → same_bytes (drop i a) (drop i b) ≡ true
-unfolding same_bytes
-same_done a b i h l = ap (λ (x : List ℕ). same_bytes x (drop i b)) (drop_of_length-le a h) ∙ ap (same_bytes []) (drop_of_length-le b l)
+same_is [] [] = refl
+same_is [] (y ∷ ys) = refl
+same_is (x ∷ xs) [] = refl
+same_is (x ∷ xs) (y ∷ ys) = rw (same_is xs ys) (both_is (eqb x y) (same_bytes xs ys))
+  where
+    both_is : (p q : Bool) → (p && q) ≡ both p q
+    both_is true q = refl
+    both_is false q = refl
 
 both_false : (t : Bool) → both t false ≡ false
 both_false true = refl
@@ -51,11 +51,11 @@ pub all_entries : (f : ℕ) (s : List ℕ) → entries_at f s 0 ≡ entries f (i
 unfolding entries
 all_entries f s = ap (map (λ (d : Bytes). entry (items d))) (all_elements f s)
 
-pub entries_none : (f : ℕ) (s : List ℕ) (at : ℕ) → first_of f (fields_at s at) ≡ found.Nothing → entries_at f s at ≡ []
+pub entries_none : (f : ℕ) (s : List ℕ) (at : ℕ) → first_of f (fields_at s at) ≡ None → entries_at f s at ≡ []
 entries_none f s at h = ap (map (λ (d : Bytes). entry (items d))) (found_none f s at h)
 
-pub entries_next : (f : ℕ) (s : List ℕ) (at : ℕ) {a e : ℕ} → first_of f (fields_at s at) ≡ found.Part a e
-    → entries_at f s at ≡ entry (items (part s a e)) ∷ entries_at f s e
+pub entries_next : (f : ℕ) (s : List ℕ) (at : ℕ) {p : Span} → first_of f (fields_at s at) ≡ Some p
+    → entries_at f s at ≡ entry (items (part s p.start p.end)) ∷ entries_at f s p.end
 entries_next f s at h = ap (map (λ (d : Bytes). entry (items d))) (found_part f s at h)
 
 -- ---- the last entry of a key
@@ -81,13 +81,13 @@ unfolding string_or_none
 fits_all k es = fits_last k _ es
 
 -- at an entry: q is whether it has the key
-pub fits_next : (k : ℕ) (t q : Bool) (f : ℕ) (s : List ℕ) (at : ℕ) {a e : ℕ} → first_of f (fields_at s at) ≡ found.Part a e
-    → same_bytes (entry (items (part s a e))).key (key_bytes k) ≡ q
-    → fits_from k t (entries_at f s at) ≡ fits_from k (pick q (string_or_none (entry (items (part s a e))).value) t) (entries_at f s e)
+pub fits_next : (k : ℕ) (t q : Bool) (f : ℕ) (s : List ℕ) (at : ℕ) {p : Span} → first_of f (fields_at s at) ≡ Some p
+    → same_bytes (entry (items (part s p.start p.end))).key (key_bytes k) ≡ q
+    → fits_from k t (entries_at f s at) ≡ fits_from k (pick q (string_or_none (entry (items (part s p.start p.end))).value) t) (entries_at f s p.end)
 unfolding fits_from
-fits_next k t q f s at {a} {e} h i =
+fits_next k t q f s at {p} h i =
     ap (fits_from k t) (entries_next f s at h)
-    ∙ ap (λ (x : Bool). fits_from k (pick x (string_or_none (entry (items (part s a e))).value) t) (entries_at f s e)) i
+    ∙ ap (λ (x : Bool). fits_from k (pick x (string_or_none (entry (items (part s p.start p.end))).value) t) (entries_at f s p.end)) i
 
 -- ---- the keys from one on
 

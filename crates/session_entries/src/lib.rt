@@ -5,41 +5,30 @@ ghost use Rattle.std.specs.Prelude.{◌≡◌, ℕ};
 ghost use Rattle.wire_fields.specs.Items.{items};
 ghost use Rattle.wire_message.specs.Message as m;
 ghost use Rattle.session_entries.specs.Required.{same_bytes, key_bytes, last_value, string_or_none, types_fit, missing, entries_refusal, named_key};
+ghost use Rattle.session_entries.specs.Answer.{number, key};
 
-use wire_fields::{Found, next_part, part_in};
+use wire_fields::{next_part, part_in};
 use wire_message::{Value, value_in};
+use wire_types::Span;
 
+#[tactic(auto, using(crate::proofs::Laws::same_is))]
 pub fn same(a: &[u8], b: &[u8]) -> bool
     ensures { result ≡ same_bytes a.now b.now }
 {
-    let n = a.len();
-    if n != b.len() {
-        return false;
-    }
-    let mut i: usize = 0;
-    while i < n {
-        if a[i] != b[i] {
-            return false;
-        }
-        i += 1;
-    }
-    true
+    a == b
 }
 
 // Is it the required key of this number.
+#[tactic(auto, unfolding(crate::specs::Required::key_bytes))]
 fn is_key(a: &[u8], k: u8) -> bool
     ensures { result ≡ same_bytes a.now (key_bytes k) }
 {
-    if k == 0 {
-        return same(a, b"command");
+    match k {
+        0 => same(a, b"command"),
+        1 => same(a, b"runuser"),
+        2 => same(a, b"submithost"),
+        _ => same(a, b"submituser"),
     }
-    if k == 1 {
-        return same(a, b"runuser");
-    }
-    if k == 2 {
-        return same(a, b"submithost");
-    }
-    same(a, b"submituser")
 }
 
 // Has an entry that key.
@@ -57,11 +46,11 @@ fn has_string(s: &[u8]) -> bool
     ensures { result ≡ string_or_none (m.entry (items s.now)).value }
 {
     match value_in(s) {
-        Value::Absent => true,
-        Value::Number(_) => false,
-        Value::String(_) => true,
-        Value::Strings(_) => false,
-        Value::Numbers(_) => false,
+        None => true,
+        Some(Value::Number(_)) => false,
+        Some(Value::String(_)) => true,
+        Some(Value::Strings(_)) => false,
+        Some(Value::Numbers(_)) => false,
     }
 }
 
@@ -71,36 +60,28 @@ fn key_fits(s: &[u8], field: u64, k: u8) -> bool
 {
     let mut fits = true;
     let mut at: usize = 0;
-    loop {
-        match next_part(s, at, field) {
-            Found::Part { start, end } => {
-                if has_key(&s[start..end], k) {
-                    fits = has_string(&s[start..end]);
-                }
-                at = end;
-            }
-            Found::Nothing => {
-                return fits;
-            }
+    while let Some(Span { start, end }) = next_part(s, at, field) {
+        if has_key(&s[start..end], k) {
+            fits = has_string(&s[start..end]);
         }
+        at = end;
     }
+    fits
 }
 
 fn types_fit(s: &[u8], field: u64) -> bool
     ensures { result ≡ types_fit (m.entries field (items s.now)) }
 {
-    let mut k: u8 = 0;
-    while k < 4 {
-        if key_fits(s, field, k) {
-            k += 1;
-        } else {
+    for k in 0..4 {
+        if !key_fits(s, field, k) {
             return false;
         }
     }
     true
 }
 
-// The first required key that no entry has, 4 for none.
+// The first required key that no entry has, 4 for none. Document 01 names this form: an outer loop over the keys, an inner one over the
+// entries, left by label with the key's number. So the keys are counted by hand, and a number it is.
 fn missing_key(s: &[u8], field: u64) -> u8
     ensures { result ≡ missing (m.entries field (items s.now)) }
 {
@@ -108,41 +89,39 @@ fn missing_key(s: &[u8], field: u64) -> u8
     'keys: while k < 4 {
         let mut at: usize = 0;
         loop {
-            match next_part(s, at, field) {
-                Found::Part { start, end } => {
-                    if has_key(&s[start..end], k) {
-                        break;
-                    }
-                    at = end;
-                }
-                Found::Nothing => {
-                    break 'keys;
-                }
+            let Some(Span { start, end }) = next_part(s, at, field) else {
+                break 'keys;
+            };
+            if has_key(&s[start..end], k) {
+                break;
             }
+            at = end;
         }
         k += 1;
     }
     k
 }
 
-// The refusal of a message's required entries, 0 for none, and the key that refusal 8 names.
-#[derive(Drop)]
-pub struct Required {
-    pub refusal: u8,
-    pub key: u8,
+// Why a message's required entries are refused.
+#[derive(Clone, Copy, Debug, PartialEq, Eq)]
+pub enum EntryError {
+    // 7: a required key whose last entry is no string
+    NotAString,
+    // 8: a required key, 0 to 3, that no entry has
+    Missing(u8),
 }
 
-// Refusal 7 for a required key whose last entry is no string, then 8 for a required key that no entry has.
-pub fn entries_refusal(s: &[u8], field: u64) -> Required
-    ensures refusal { result.refusal ≡ entries_refusal (m.entries field (items s.now)) }
-    ensures key { result.key ≡ named_key (m.entries field (items s.now)) }
+// 7 for a required key whose last entry is no string, then 8 for a required key that no entry has.
+pub fn entries_refusal(s: &[u8], field: u64) -> Result<(), EntryError>
+    ensures refusal { number result ≡ entries_refusal (m.entries field (items s.now)) }
+    ensures key { key result ≡ named_key (m.entries field (items s.now)) }
 {
-    if types_fit(s, field) {
-        let k = missing_key(s, field);
-        if k == 4 {
-            return Required { refusal: 0, key: 0 };
-        }
-        return Required { refusal: 8, key: k };
+    if !types_fit(s, field) {
+        return Err(EntryError::NotAString);
     }
-    Required { refusal: 7, key: 0 }
+    let k = missing_key(s, field);
+    if k == 4 {
+        return Ok(());
+    }
+    Err(EntryError::Missing(k))
 }

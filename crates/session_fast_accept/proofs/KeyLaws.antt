@@ -3,11 +3,14 @@ use Prim.Native.Nat.{ℕ, zero, suc, ◌≤◌, ◌<◌}
 use native.Mathlib.Omega.{arith}
 use mathlib.Core.Path.{◌≡◌, refl, sym, ap, subst, ◌∙◌}
 use mathlib.Core.List.{List, [], ◌∷◌, map}
-use mathlib.Core.Bool.{Bool, true, false}
-use lib.ListN.{length}
+use mathlib.Core.Bool.{Bool, true, false, ◌&&◌}
+use lib.ListN.{length, take}
 use lib.Dec.{eqb, lit≤}
-use borrow.Author.Tests.{le-leb, ne_eqb, eqb-true}
-use Rattle.base_laws.specs.Base.{pick, part}
+use borrow.Author.Tests.{le-leb, eq-eqb, ne_eqb, eqb-true, eqb-false}
+use Rattle.std.specs.Prelude.{Option, Some}
+use Rattle.std.proofs.lemmas.List.{take_all}
+use Rattle.std.specs.Cmp.Lexicographic.{pointwise}
+use Rattle.base_laws.specs.Base.{pick, both, part}
 use Rattle.base_laws.proofs.Order.{both_true}
 use Rattle.wire_check.specs.Entry.{Holds}
 use Rattle.wire_fields.specs.Items.{bytes, item_of, items}
@@ -17,9 +20,6 @@ use Rattle.wire_range.specs.Limits.{is_set, entry_fits}
 use Rattle.session_entries.specs.Required.{same_bytes, key_bytes, string_or_none}
 use Rattle.session_fast_accept.specs.Summary.{key_number, with_key, all_met, is_met, is_string, EntrySeen, KeySeen}
 use Rattle.session_fast_accept.specs.declared.Keys.{Keys}
-use Rattle.session_fast_accept.specs.declared.Seen.{Seen}
-use Rattle.session_fast_accept.specs.declared.Seen.TheVariants as seen
-use Rattle.session_entries.proofs.Laws.{same_length}
 
 -- what holds of the four keys holds of each
 pub each_key : (P : ℕ → Type 0) → P 0 → P 1 → P 2 → P 3 → (k : ℕ) → k < 4 → P k
@@ -40,6 +40,28 @@ same_bytes_lem (x ∷ xs) (y ∷ ys) e =
     let h = both_true (eqb x y) (same_bytes xs ys) e in
     rw (eqb-true x y h.0, same_bytes_lem xs ys h.1)
 
+-- `same_bytes` is what starts_with says of a key of the same length
+flip : (x y : ℕ) → eqb x y ≡ eqb y x
+flip x y = go (eqb x y) refl
+  where
+    go : (t : Bool) → eqb x y ≡ t → t ≡ eqb y x
+    go true e = let i = eqb-true x y e in sym (eq-eqb y x (sym i))
+    go false e = sym (ne_eqb y x (λ i. eqb-false x y e (sym i)))
+
+both_and : (t u : Bool) → both t u ≡ (t && u)
+both_and true u = refl
+both_and false u = refl
+
+same_compares : (a b : Bytes) → same_bytes a b ≡ pointwise eqb b a
+unfolding same_bytes
+same_compares [] [] = refl
+same_compares [] (y ∷ ys) = refl
+same_compares (x ∷ xs) [] = refl
+same_compares (x ∷ xs) (y ∷ ys) = both_and (eqb x y) (same_bytes xs ys) ∙ rw (flip x y, same_compares xs ys)
+
+pub compared : (a k : Bytes) → length a ≡ length k → {r t : Bool} → r ≡ pointwise eqb k (take (length k) a) → r ≡ t → same_bytes a k ≡ t
+compared a k l e says = same_compares a k ∙ ap (pointwise eqb k) (sym (take_all (length k) a (omega arith))) ∙ sym e ∙ says
+
 -- the required keys differ
 apart : (n : ℕ) → n < 4 → (k : ℕ) → k < 4 → same_bytes (key_bytes n) (key_bytes k) ≡ eqb n k
 unfolding same_bytes key_bytes
@@ -59,7 +81,11 @@ module _ (a : Bytes) where
   key_other p q r t = each_key (λ (k : ℕ). same_bytes a (key_bytes k) ≡ eqb 4 k) p q r t
 
   pub key_length_lem : (k n : ℕ) → length (key_bytes k) ≡ n → (length a ≡ n → ⊥) → same_bytes a (key_bytes k) ≡ false
-  key_length_lem k n e h = same_length a (key_bytes k) (λ l. h (l ∙ e))
+  key_length_lem k n e h = go (same_bytes a (key_bytes k)) refl
+    where
+      go : (t : Bool) → same_bytes a (key_bytes k) ≡ t → t ≡ false
+      go true is = absurd (h (ap length (same_bytes_lem a (key_bytes k) is) ∙ e))
+      go false is = refl
 
 -- the number n is the key's where it tells the four keys as the key does
 five : (n : ℕ) → n < 5 → n ≡ pick (eqb n 0) 0 (pick (eqb n 1) 1 (pick (eqb n 2) 2 (pick (eqb n 3) 3 4)))
@@ -133,7 +159,7 @@ either true = refl
 either false = refl
 
 module _ (d : Bytes) (h : 1 ≤ length d) where
-  pub string_passes : KeySeen is_string d (seen.Fine (key_number d))
+  pub string_passes : KeySeen is_string d (Some (key_number d))
   unfolding KeySeen EntrySeen
   string_passes v t =
       let y = string_set v t in (
@@ -144,7 +170,7 @@ module _ (d : Bytes) (h : 1 ≤ length d) where
         },
       )
 
-  pub other_passes : key_number d ≡ 4 → KeySeen is_set d (seen.Fine 4)
+  pub other_passes : key_number d ≡ 4 → KeySeen is_set d (Some 4)
   unfolding KeySeen EntrySeen
   other_passes e v t = (
     in_range_lem d v h t,
@@ -161,7 +187,7 @@ module _ {s : List ℕ} {k : ℕ} {f : Field} (h : Holds s k f) where
   held = ap (λ (fs : List Field). entry (map (item_of s) fs)) h.fields
 
   -- f is read as the value v, which passes the test
-  pub by_value : (test : Value → Bool) (v : Value) (r : Seen)
+  pub by_value : (test : Value → Bool) (v : Value) (r : Option ℕ)
       → entry (bytes 1 (part s 2 k) ∷ item_of s f ∷ []) ≡ record { key = part s 2 k; value = v } → test v ≡ true
       → KeySeen test (part s 2 k) r → EntrySeen (entry (items s)) r
   unfolding KeySeen

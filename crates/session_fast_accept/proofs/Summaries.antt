@@ -6,21 +6,25 @@ use mathlib.Core.Path.{◌≡◌, refl, sym, ap, subst, ◌∙◌}
 use mathlib.Core.List.{List, [], ◌∷◌, map}
 use mathlib.Core.Bool.{Bool, true, false}
 use lib.ListN.{length, get_or}
+use Rattle.std.specs.Prelude.{Some, Result, Ok}
 use Rattle.base_laws.specs.Base.{pick, both, part}
-use Rattle.wire_varint.specs.Varint.{varint_at}
-use Rattle.wire_value.specs.Field.{number_payload, part_of, payload_at}
+use Rattle.wire_varint.specs.Varint.{read, varint_at}
+use Rattle.wire_value.specs.Field.{number_read, part_of, as_number, as_part, payload_at}
 use Rattle.wire_varint.specs.Tag.{tag_of}
-use Rattle.wire_varint.specs.declared.Varint.TheVariants.{Value}
+use Rattle.wire_varint.specs.declared.Varint.{Varint}
 use Rattle.wire_varint.specs.declared.tag.Tag.{Tag}
-use Rattle.wire_varint.specs.declared.tag.Tag.TheVariants as tag
+use Rattle.wire_types.specs.declared.Refusal.{Refusal}
+use Rattle.wire_types.specs.declared.Refused.{Refused}
+use Rattle.wire_types.specs.declared.Span.{Span}
 use Rattle.wire_value.specs.declared.Payload.{Payload}
 use Rattle.wire_value.specs.declared.Payload.TheVariants as payload
-use Rattle.wire_fields.specs.Fields.{field_of, field_from, field_at, on_field, fields_from, fields_at, among}
+use Rattle.wire_fields.specs.Fields.{field_with, field_of, field_from, field_at, next_of, on_field, fields_from, fields_at, among}
 use Rattle.wire_fields.specs.Items as item
 use Rattle.wire_fields.specs.Items.{Item, item_of, items, last_from, last_item, bytes_of, every_bytes}
 use Rattle.wire_fields.proofs.Reach.{PayloadRead, payload_at_lem}
 use Rattle.wire_fields.proofs.Follow.{follow, none}
 use Rattle.wire_check.proofs.Entries.{tagged}
+use Rattle.wire_check_field.proofs.Walk.{field_tag}
 use Rattle.wire_elements.specs.Elements.{items_at}
 use Rattle.wire_message.specs.Signed.{signed, int32, bool}
 use Rattle.wire_message.specs.Message.{Bytes, Entry, time_spec, time_field, entry, entries, accept}
@@ -29,8 +33,6 @@ use Rattle.wire_range.specs.Range.{accept_fits, body_fits}
 use Rattle.session_entries.specs.Required.{same_bytes, key_bytes, last_value, string_or_none, types_from, has, missing_from, entries_refusal}
 use Rattle.session_fast_accept.specs.Summary.{with_key, is_met, Passed, EntrySeen, Summarised}
 use Rattle.session_fast_accept.specs.declared.Keys.{Keys}
-use Rattle.session_fast_accept.specs.declared.Seen.TheVariants as seen
-use Rattle.session_fast_accept.specs.declared.Summary.TheVariants as summary
 use Rattle.session_entries.proofs.Laws.{entries_at, all_entries, fits_from, fits_all}
 use Rattle.session_fast_accept.proofs.KeyLaws.{each_key, with_key_met}
 
@@ -38,27 +40,30 @@ use Rattle.session_fast_accept.proofs.KeyLaws.{each_key, with_key_met}
 
 -- how far a value reaches
 module _ (s : List ℕ) (x : ℕ) (within : x ≤ length s) where
-  pub part_in_bounds : {a e : ℕ} → part_of s x (varint_at s x) ≡ payload.Part a e → (x ≤ a) × (a ≤ e) × (e ≤ length s)
-  unfolding payload_at
-  part_in_bounds h = subst (PayloadRead s x) h (payload_at_lem s x within x 2 within)
+  pub part_in_bounds : {p : Span} → part_of s x (varint_at s x) ≡ Ok p → (x ≤ p.start) × (p.start ≤ p.end) × (p.end ≤ length s)
+  unfolding payload_at as_part
+  part_in_bounds h = subst (PayloadRead s x) (ap as_part h) (payload_at_lem s x within x 2 within)
 
-  pub number_in_bounds : {v n : ℕ} → number_payload x (varint_at s x) ≡ payload.Number v n → (x ≤ n) × (n ≤ length s)
-  unfolding payload_at
-  number_in_bounds h = subst (PayloadRead s x) h (payload_at_lem s x within x 0 within)
+  pub number_in_bounds : {v : Varint} → number_read x (varint_at s x) ≡ Ok v → (x ≤ v.next) × (v.next ≤ length s)
+  unfolding payload_at as_number
+  number_in_bounds h = subst (PayloadRead s x) (ap as_number h) (payload_at_lem s x within x 0 within)
 
-module _ (s : List ℕ) (at : ℕ) (i : at < length s) (t f w : ℕ) (e : get_or s at 0 ≡ t) (l : t < 128) (is : (x : ℕ) → tag_of (Value t x) ≡ tag.Field f w x) where
+module _ (s : List ℕ) (at : ℕ) (i : at < length s) (t f w : ℕ) (e : get_or s at 0 ≡ t) (l : t < 128) (is : (x : ℕ) → tag_of (read t x) ≡ field_tag f w x) where
   -- the fields are the one read, and those that follow it
-  read : (p : Payload) → payload_at s at (at + 1) w ≡ p → fields_at s at ≡ on_field (fields_at s) (field_of f p)
-  unfolding field_at field_from
-  read p h = follow s at i ∙ ap (λ (g : Tag). on_field (fields_at s) (field_from s at g)) (tagged s at t f w i l e (is (at + 1))) ∙ ap (λ (q : Payload). on_field (fields_at s) (field_of f q)) h
+  found : (p : Payload) → payload_at s at (at + 1) w ≡ Ok p → fields_at s at ≡ field_with f p ∷ fields_at s (next_of (field_with f p))
+  unfolding field_at field_from field_of on_field
+  found p h =
+      follow s at i
+      ∙ ap (λ (g : Result Tag Refusal). on_field (fields_at s) (field_from s at g)) (tagged s at t f w i l e (is (at + 1)))
+      ∙ ap (λ (q : Result Payload Refused). on_field (fields_at s) (field_of f q)) h
 
-  pub part_item : w ≡ 2 → {a b : ℕ} → part_of s (at + 1) (varint_at s (at + 1)) ≡ payload.Part a b → items_at s at ≡ item.bytes f (part s a b) ∷ items_at s b
-  unfolding payload_at on_field field_of
-  part_item two {a} {b} h = ap (map (item_of s)) (read (payload.Part a b) (rw two h))
+  pub part_item : w ≡ 2 → {p : Span} → part_of s (at + 1) (varint_at s (at + 1)) ≡ Ok p → items_at s at ≡ item.bytes f (part s p.start p.end) ∷ items_at s p.end
+  unfolding payload_at as_part field_with
+  part_item two {p} h = ap (map (item_of s)) (found (payload.Part p) (rw two (ap as_part h)))
 
-  pub number_item : w ≡ 0 → {v n : ℕ} → number_payload (at + 1) (varint_at s (at + 1)) ≡ payload.Number v n → items_at s at ≡ item.number f v ∷ items_at s n
-  unfolding payload_at on_field field_of
-  number_item none {v} {n} h = ap (map (item_of s)) (read (payload.Number v n) (rw none h))
+  pub number_item : w ≡ 0 → {v : Varint} → number_read (at + 1) (varint_at s (at + 1)) ≡ Ok v → items_at s at ≡ item.number f v.value ∷ items_at s v.next
+  unfolding payload_at as_number field_with
+  number_item none {v} h = ap (map (item_of s)) (found (payload.Number v) (rw none (ap as_number h)))
 
 -- ---- a required key
 
@@ -179,7 +184,7 @@ module _ {s : List ℕ} {at : ℕ} {expect : Bool} {keys : Keys} (g : Told s at 
   }
 
   pub entered : (d : Bytes) (n key : ℕ) → items_at s at ≡ item.bytes 2 d ∷ items_at s n
-      → EntrySeen (entry (items d)) (seen.Fine key) → Told s n expect (with_key keys key)
+      → EntrySeen (entry (items d)) (Some key) → Told s n expect (with_key keys key)
   unfolding last_from among entries every_bytes entries_fit EntrySeen
   entered d n key h e = let q : entries_at 2 s at ≡ entry (items d) ∷ entries_at 2 s n = found_entries n (item.bytes 2 d) h in record {
     flag = g.flag;
@@ -192,7 +197,7 @@ module _ {s : List ℕ} {at : ℕ} {expect : Bool} {keys : Keys} (g : Told s at 
     each = λ k l. key_past k key keys l (subst (λ (es : List Entry). KeyAt k (is_met k keys) es (entries 2 (items s))) q (g.each k l)) (e.1 k l);
   }
 
-  pub finish : length s ≤ at → ((k : ℕ) → k < 4 → is_met k keys ≡ true) → Summarised s (summary.Sound expect)
+  pub finish : length s ≤ at → ((k : ℕ) → k < 4 → is_met k keys ≡ true) → Summarised s (Some expect)
   unfolding Summarised accept body_fits accept_fits time_field last_from every_bytes entries_fit
   finish h met =
       let e : items_at s at ≡ [] = ap (map (item_of s)) (none s at h) in

@@ -3,7 +3,7 @@
 -- These are inner definitions: they follow the code, and no sentence of document 01. An auditor can skip them, since the contract of
 -- `on_accept` (crates/session_events/src/lib.rt) is the general `on_member` (crates/session/specs/Step.antt). What proves them against
 -- `body_fits` and `entries_refusal`: crates/session_fast_accept/proofs/KeyLaws.antt: `string_passes`, `other_passes`; Summaries.antt: `finish`.
-use Rattle.std.specs.Prelude.{ℕ, ◌<◌, ◌≡◌, List, Bool, true, false, eqb}
+use Rattle.std.specs.Prelude.{ℕ, ◌<◌, ◌≡◌, List, Bool, true, false, Option, Some, None, eqb}
 use Rattle.base_laws.specs.Base.{pick, both}
 use Rattle.wire_schema.specs.Schema.{AcceptMessage}
 use Rattle.wire_fields.specs.Items.{items}
@@ -12,16 +12,12 @@ use Rattle.wire_range.specs.Limits.{entry_fits}
 use Rattle.wire_range.specs.Range.{body_fits}
 use Rattle.session_entries.specs.Required.{same_bytes, key_bytes, string_or_none, entries_refusal}
 use Rattle.session_fast_accept.specs.declared.Keys.{Keys}
-use Rattle.session_fast_accept.specs.declared.Seen.{Seen}
-use Rattle.session_fast_accept.specs.declared.Seen.TheVariants as seen
-use Rattle.session_fast_accept.specs.declared.Summary.{Summary}
-use Rattle.session_fast_accept.specs.declared.Summary.TheVariants as summary
 
 -- a sound accept has its flag, its values are in range, and its required entries are there
-unfoldable pub Summarised : List ℕ → Summary → Type 0
-Summarised s (summary.Sound x) =
+unfoldable pub Summarised : List ℕ → Option Bool → Type 0
+Summarised s (Some x) =
     ((accept (items s)).expect_iobufs ≡ x) × (body_fits AcceptMessage (items s) ≡ true) × (entries_refusal (entries 2 (items s)) ≡ 0)
-Summarised s summary.Other = Unit
+Summarised s None = Unit
 
 -- ---- the required keys
 
@@ -57,9 +53,9 @@ pub record Passed (e : Entry) (n k : ℕ) : Type 0 where
   pub string : pick (same_bytes e.key (key_bytes k)) (string_or_none e.value) true ≡ true
 
 -- an entry that is fine is in range, and each of the four keys passes it. Nothing is said of another.
-unfoldable pub EntrySeen : Entry → Seen → Type 0
-EntrySeen e (seen.Fine n) = (entry_fits e ≡ true) × ((k : ℕ) → k < 4 → Passed e n k)
-EntrySeen e seen.Other = Unit
+unfoldable pub EntrySeen : Entry → Option ℕ → Type 0
+EntrySeen e (Some n) = (entry_fits e ≡ true) × ((k : ℕ) → k < 4 → Passed e n k)
+EntrySeen e None = Unit
 
 -- is it a string
 unfoldable pub is_string : Value → Bool
@@ -70,5 +66,5 @@ is_string (strlistval l) = false
 is_string (numlistval l) = false
 
 -- what the key d shows by itself of each entry whose value passes the test
-unfoldable pub KeySeen : (Value → Bool) → Bytes → Seen → Type 0
+unfoldable pub KeySeen : (Value → Bool) → Bytes → Option ℕ → Type 0
 KeySeen test d r = (v : Value) → test v ≡ true → EntrySeen (record { key = d; value = v }) r

@@ -3,7 +3,7 @@
 
 pub mod rule;
 
-#[derive(Clone, Copy)]
+#[derive(Clone, Copy, Debug, PartialEq, Eq)]
 pub enum State {
     New,
     Greeted,
@@ -12,15 +12,8 @@ pub enum State {
     Closed,
 }
 
-// What a message gives in a state: the next state, or it is not this state's turn.
-#[derive(Clone, Copy)]
-pub enum Turn {
-    To(State),
-    NotNow,
-}
-
 // A column of document 01's turns: a message by its member; an accept has two, by its expect_iobufs.
-#[derive(Clone, Copy)]
+#[derive(Clone, Copy, Debug, PartialEq, Eq)]
 pub enum Column {
     AcceptWithIo,
     AcceptAlone,

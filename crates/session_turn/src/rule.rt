@@ -6,75 +6,57 @@ ghost use Rattle.wire_message.specs.Message as m;
 ghost use Rattle.session_turn.specs.Turn as t;
 ghost use Rattle.session_turn.specs.declared.Column.TheVariants as column;
 
-use crate::{Column, State, Turn};
+use crate::{Column, State};
 
-// In new or greeted.
-fn opening(state: State, next: State) -> Turn
+// In new or greeted: nothing opens a closed session again.
+#[tactic(auto, unfolding(crate::specs::Turn::opening))]
+fn opening(state: State, next: State) -> Option<State>
     ensures { result ≡ t.opening state next }
 {
     match state {
-        State::New => Turn::To(next),
-        State::Greeted => Turn::To(next),
-        State::Logging => Turn::NotNow, // open already
-        State::EventsOnly => Turn::NotNow,
-        State::Closed => Turn::NotNow, // nothing opens it again
+        State::New | State::Greeted => Some(next),
+        _ => None,
     }
 }
 
-// In logging.
-fn recording(state: State) -> Turn
+// In logging: in greeted there is no accept yet.
+#[tactic(auto, unfolding(crate::specs::Turn::recording))]
+fn recording(state: State) -> Option<State>
     ensures { result ≡ t.recording state }
 {
-    match state {
-        State::New => Turn::NotNow,
-        State::Greeted => Turn::NotNow, // no accept yet
-        State::Logging => Turn::To(State::Logging),
-        State::EventsOnly => Turn::NotNow,
-        State::Closed => Turn::NotNow,
-    }
+    matches!(state, State::Logging).then_some(State::Logging)
 }
 
-// A hello.
-fn greeting(state: State) -> Turn
+// A hello: a second one is not in its turn.
+#[tactic(auto, unfolding(crate::specs::Turn::greeting))]
+fn greeting(state: State) -> Option<State>
     ensures { result ≡ t.greeting state }
 {
-    match state {
-        State::New => Turn::To(State::Greeted),
-        State::Greeted => Turn::NotNow, // a second hello
-        State::Logging => Turn::NotNow,
-        State::EventsOnly => Turn::NotNow,
-        State::Closed => Turn::NotNow,
-    }
+    matches!(state, State::New).then_some(State::Greeted)
 }
 
-// An exit.
-fn ending(state: State) -> Turn
+// An exit: in new and greeted there is nothing to end.
+#[tactic(auto, unfolding(crate::specs::Turn::ending))]
+fn ending(state: State) -> Option<State>
     ensures { result ≡ t.ending state }
 {
-    match state {
-        State::New => Turn::NotNow, // nothing to end
-        State::Greeted => Turn::NotNow,
-        State::Logging => Turn::To(State::Closed),
-        State::EventsOnly => Turn::To(State::Closed),
-        State::Closed => Turn::NotNow,
-    }
+    matches!(state, State::Logging | State::EventsOnly).then_some(State::Closed)
 }
 
-// An alert.
-fn alerting(state: State) -> Turn
+// An alert: in any state but closed.
+#[tactic(auto, unfolding(crate::specs::Turn::alerting))]
+fn alerting(state: State) -> Option<State>
     ensures { result ≡ t.alerting state }
 {
     match state {
-        State::New => Turn::To(State::New),
-        State::Greeted => Turn::To(State::Greeted),
-        State::Logging => Turn::To(State::Logging),
-        State::EventsOnly => Turn::To(State::EventsOnly),
-        State::Closed => Turn::NotNow, // over
+        State::Closed => None, // over
+        _ => Some(state),
     }
 }
 
 // The turn of every message of this column.
-pub fn turn(state: State, column: Column) -> Turn
+#[tactic(auto, using(crate::proofs::Turns::by_column), unfolding(crate::proofs::Turns::turn_at))]
+pub fn turn(state: State, column: Column) -> Option<State>
     ensures { (c : m.Client) → t.column_of c ≡ column → result ≡ t.turn state c }
 {
     match column {
@@ -96,7 +78,8 @@ pub fn accept_column(expect: bool) -> Column
     ensures { result ≡ pick expect column.AcceptWithIo column.AcceptAlone }
 {
     if expect {
-        return Column::AcceptWithIo;
+        Column::AcceptWithIo
+    } else {
+        Column::AcceptAlone
     }
-    Column::AcceptAlone
 }

@@ -1,5 +1,6 @@
 -- Laws of a text: byte by byte, and whether it fits. Assumes nothing.
 use mathlib.Core.Path.{◌≡◌, refl, sym, ap, ◌∙◌}
+use Rattle.std.specs.Prelude.{min, Some, None}
 use Prim.Native.Nat.{ℕ, ◌+◌, ◌≤◌, ◌<◌}
 use native.Mathlib.Numerals.{add-one}
 use native.Mathlib.Omega.{arith}
@@ -8,13 +9,11 @@ use mathlib.Core.Bool.{Bool, true, false}
 use lib.ListN.{length, drop, get_or, length-append, drop_of_length-le}
 use lib.Seq.{drop-cons}
 use lib.Dec.{leb}
-use borrow.Author.Tests.{leb-true, leb-false, le-leb}
-use Rattle.base_laws.specs.Base.{pick, both}
-use Rattle.base_laws.proofs.Order.{picked, both_true}
+use borrow.Author.Tests.{leb-true, leb-false, le-leb, lt-leb}
+use Rattle.base_laws.specs.Base.{both}
+use Rattle.base_laws.proofs.Order.{both_true}
 use Rattle.base_copy.specs.Put.{Put}
 use Rattle.show_escape.specs.Escape.{escaped_byte, escaped, text_fits, escape_answer, escape_out}
-use Rattle.show_escape.specs.Forms.{longest_in}
-use Rattle.show_escape.specs.declared.Escaped.TheVariants.{Text, NoRoom}
 
 module _ (bs : List ℕ) (i : ℕ) where
   pub next_byte : i < length bs → escaped (drop i bs) ≡ escaped_byte (get_or bs i 0) ++ escaped (drop (i + 1) bs)
@@ -48,24 +47,17 @@ count_end {bs} {most} {left} {i} v l = omega (arith, v.all, ap length (no_byte b
 
 -- ---- the room: at most the smaller of two numbers is at most both
 
-only_left : (a b : Bool) → (a ≡ true → b ≡ true) → a ≡ both a b
-only_left true b h = sym (h refl)
-only_left false b h = refl
-
-only_right : (a b : Bool) → (b ≡ true → a ≡ true) → b ≡ both a b
-only_right true b h = refl
-only_right false true h = sym (h refl)
-only_right false false h = refl
-
-smaller : (a n m : ℕ) → leb a (pick (leb n m) n m) ≡ both (leb a n) (leb a m)
-smaller a n m =
-    picked (λ (k : ℕ). leb a k ≡ both (leb a n) (leb a m)) (leb n m) n m
-    (λ p. only_left (leb a n) (leb a m) (λ q. le-leb a m (omega (arith, leb-true n m p, leb-true a n q))))
-    (λ p. only_right (leb a n) (leb a m) (λ q. le-leb a n (omega (arith, leb-false n m p, leb-true a m q))))
+smaller : (a n m : ℕ) → leb a (min n m) ≡ both (leb a n) (leb a m)
+smaller a n m = go (leb a n) (leb a m) refl refl
+  where
+    go : (s t : Bool) → leb a n ≡ s → leb a m ≡ t → leb a (min n m) ≡ both (leb a n) (leb a m)
+    go true true e f = let h = leb-true a n e in let k = leb-true a m f in rw (e, f) (le-leb a (min n m) (omega arith))
+    go true false e f = let h = leb-false a m f in rw (e, f) (lt-leb a (min n m) (omega arith))
+    go false t e f = let h = leb-false a n e in rw e (lt-leb a (min n m) (omega arith))
 
 -- ---- what is answered and left, by the test t of the text's length
 
-module _ (bs out : List ℕ) {t : Bool} {most : ℕ} (f : t ≡ leb (length (escaped bs)) most) (l : most ≡ longest_in (length out)) where
+module _ (bs out : List ℕ) {t : Bool} {most : ℕ} (f : t ≡ leb (length (escaped bs)) most) (l : most ≡ min (length out) 4294967295) where
   told : t ≡ text_fits (escaped bs) out
   unfolding text_fits
   told = f ∙ ap (leb (length (escaped bs))) l ∙ smaller (length (escaped bs)) (length out) 4294967295
@@ -74,10 +66,10 @@ module _ (bs out : List ℕ) {t : Bool} {most : ℕ} (f : t ≡ leb (length (esc
   unfolding text_fits
   room h = leb-true (length (escaped bs)) (length out) (both_true _ _ (sym told ∙ h)).0
 
-  pub no_room : t ≡ false → (NoRoom ≡ escape_answer bs out) × (out ≡ escape_out bs out)
+  pub no_room : t ≡ false → (None ≡ escape_answer bs out) × (out ≡ escape_out bs out)
   unfolding escape_answer escape_out
   no_room h = let e : text_fits (escaped bs) out ≡ false = sym told ∙ h in (rw e, rw e)
 
-  pub stored : {out' : List ℕ} {r : ℕ} → t ≡ true → Put out 0 (escaped bs) out' r → (Text r ≡ escape_answer bs out) × (out' ≡ escape_out bs out)
+  pub stored : {out' : List ℕ} {r : ℕ} → t ≡ true → Put out 0 (escaped bs) out' r → (Some r ≡ escape_answer bs out) × (out' ≡ escape_out bs out)
   unfolding escape_answer escape_out
-  stored {out'} {r} h p = let e : text_fits (escaped bs) out ≡ true = sym told ∙ h in (rw e (ap Text (p.next ∙ omega arith)), rw e p.list)
+  stored {out'} {r} h p = let e : text_fits (escaped bs) out ≡ true = sym told ∙ h in (rw e (ap Some (p.next ∙ omega arith)), rw e p.list)

@@ -1,9 +1,7 @@
 -- Recorded bytes as text for people: 32 to 126 as they are, but `\` as `\\`; 10, 13, 9 as `\n`, `\r`, `\t`; all else as `\xHH`.
-use Rattle.std.specs.Prelude.{ℕ, ◌+◌, ◌-◌, ◌/◌, ◌%◌, List, [], ◌∷◌, ◌++◌, Bool, length, ltb, leb, eqb}
+use Rattle.std.specs.Prelude.{ℕ, ◌+◌, ◌-◌, ◌/◌, ◌%◌, List, [], ◌∷◌, ◌++◌, Bool, Option, Some, None, length, ltb, leb, eqb}
 use Prim.Native.Char.{code}
 use Rattle.base_laws.specs.Base.{pick, both, splice}
-use Rattle.show_escape.specs.declared.Escaped.{Escaped}
-use Rattle.show_escape.specs.declared.Escaped.TheVariants.{Text, NoRoom}
 
 -- ---- the text
 
@@ -36,8 +34,8 @@ unfoldable pub text_fits : List ℕ → List ℕ → Bool
 text_fits text out = both (leb (length text) (length out)) (leb (length text) 4294967295)
 
 -- what is answered, and the buffer afterwards: unchanged where there is no room
-unfoldable pub escape_answer : List ℕ → List ℕ → Escaped
-escape_answer bytes out = pick (text_fits (escaped bytes) out) (Text (length (escaped bytes))) NoRoom
+unfoldable pub escape_answer : List ℕ → List ℕ → Option ℕ
+escape_answer bytes out = pick (text_fits (escaped bytes) out) (Some (length (escaped bytes))) None
 
 unfoldable pub escape_out : List ℕ → List ℕ → List ℕ
 escape_out bytes out = pick (text_fits (escaped bytes) out) (splice out 0 (escaped bytes)) out

@@ -1,8 +1,7 @@
 -- How the code shows a byte. Inner definitions, which follow the code; an auditor can skip them. Proved against `escaped_byte` by the contract of
 -- `form_of` (crates/show_escape/src/lib.rt).
-use Rattle.std.specs.Prelude.{ℕ, ◌/◌, ◌%◌, List, [], ◌∷◌, leb}
+use Rattle.std.specs.Prelude.{ℕ, ◌/◌, ◌%◌, List, [], ◌∷◌}
 use Prim.Native.Char.{code}
-use Rattle.base_laws.specs.Base.{pick}
 use Rattle.show_escape.specs.Escape.{backslash, hex_digit}
 use Rattle.show_escape.specs.declared.Form.{Form}
 use Rattle.show_escape.specs.declared.Form.TheVariants.{Plain, Letter, Hex}
@@ -12,7 +11,3 @@ abbrev pub form_text : Form → ℕ → List ℕ
 form_text Plain b = b ∷ []
 form_text (Letter c) b = backslash ∷ c ∷ []
 form_text Hex b = backslash ∷ code "x" ∷ hex_digit (b / 16) ∷ hex_digit (b % 16) ∷ []
-
--- the longest text that is stored in n bytes
-abbrev pub longest_in : ℕ → ℕ
-longest_in n = pick (leb n 4294967295) n 4294967295

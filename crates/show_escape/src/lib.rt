@@ -1,29 +1,25 @@
 // Recorded bytes as text for people: printable characters alone, and the same text only for the same bytes (specs/Shown.antt).
 // `escape` is for hosts and requires nothing. The others are inner: `put_..` requires the room, and returns the place after what it put.
+// By hand, and not by std's `escape_ascii` or `write!`: the first shows quotes and the digits of `\xHH` otherwise, and of the second to a
+// lent buffer std promises no bytes, which the clause `out` of `escape` does.
 #![tactic(auto)]
 
 ghost use Rattle.std.specs.Prelude.{◌≡◌, ◌+◌, ◌≤◌, ◌<◌, [], ◌∷◌, length, leb};
 ghost use Rattle.base_copy.specs.Put.{Put};
 ghost use Rattle.show_escape.specs.Escape.{backslash, hex_digit, escaped_byte, escaped, escape_answer, escape_out};
-ghost use Rattle.show_escape.specs.Forms.{form_text, longest_in};
-
-// The length of the text that was stored, or that there is no room for it.
-#[derive(Drop)]
-pub enum Escaped {
-    Text { length: usize },
-    NoRoom,
-}
+ghost use Rattle.show_escape.specs.Forms.{form_text};
 
 // ---- one byte
 
 // How a byte is shown: as it is, as a backslash and a letter, or as a backslash, an `x` and two digits.
-#[derive(Drop)]
+#[derive(Clone, Copy)]
 enum Form {
     Plain,
     Letter(u8),
     Hex,
 }
 
+#[tactic(auto, using(base_laws::proofs::Tests::tests), unfolding(crate::specs::Escape::escaped_byte))]
 fn form_of(b: u8) -> Form
     ensures { escaped_byte b ≡ form_text result b }
 {
@@ -37,14 +33,12 @@ fn form_of(b: u8) -> Form
     }
 }
 
+#[tactic(auto, using(base_laws::proofs::Tests::tests))]
 fn hex_digit(d: u8) -> u8
     requires { d < 16 }
     ensures { result ≡ hex_digit d }
 {
-    if d < 10 {
-        return b'0' + d;
-    }
-    b'A' + (d - 10)
+    if d < 10 { b'0' + d } else { b'A' + (d - 10) }
 }
 
 fn len_byte(b: u8) -> usize
@@ -57,6 +51,7 @@ fn len_byte(b: u8) -> usize
     }
 }
 
+#[tactic(auto, using(base_copy::proofs::Puts::put_byte))]
 fn put_char(out: &mut [u8], at: usize, c: u8) -> usize
     requires { at < length out.old }
     ensures { Put out.old at (c ∷ []) out.new result }
@@ -100,14 +95,12 @@ fn fits_in(bytes: &[u8], most: usize) -> bool
     ensures { result ≡ leb (length (escaped bytes.now)) most }
 {
     let mut left = most;
-    let mut i: usize = 0;
-    while i < bytes.len() {
-        let n = len_byte(bytes[i]);
+    for b in bytes {
+        let n = len_byte(*b);
         if left < n {
             return false;
         }
         left -= n;
-        i += 1;
     }
     true
 }
@@ -116,11 +109,9 @@ fn put_text(out: &mut [u8], bytes: &[u8]) -> usize
     requires { length (escaped bytes.now) ≤ length out.old }
     ensures { Put out.old 0 (escaped bytes.now) out.new result }
 {
-    let mut at: usize = 0;
-    let mut i: usize = 0;
-    while i < bytes.len() {
-        at = put_byte(out, at, bytes[i]);
-        i += 1;
+    let mut at = 0;
+    for b in bytes {
+        at = put_byte(out, at, *b);
     }
     at
 }
@@ -128,23 +119,14 @@ fn put_text(out: &mut [u8], bytes: &[u8]) -> usize
 // The length of the longest text, so that a length fits into 32 bits.
 const LONGEST: usize = 4_294_967_295;
 
-fn longest_in(n: usize) -> usize
-    ensures { result ≡ longest_in n }
-{
-    if n <= LONGEST {
-        return n;
-    }
-    LONGEST
-}
-
-// Stores the text of the bytes at the start of the buffer, and returns its length; where it has no room the buffer stays as it is.
-pub fn escape(data: &[u8], out: &mut [u8]) -> Escaped
+// Stores the text of the bytes at the start of the buffer, and returns its length, or None where it has no room: the buffer then stays as it is.
+pub fn escape(data: &[u8], out: &mut [u8]) -> Option<usize>
     ensures answer { result ≡ escape_answer «data».now out.old }
     ensures out { out.new ≡ escape_out «data».now out.old }
 {
-    if fits_in(data, longest_in(out.len())) {
-        let length = put_text(out, data);
-        return Escaped::Text { length };
+    if fits_in(data, out.len().min(LONGEST)) {
+        Some(put_text(out, data))
+    } else {
+        None
     }
-    Escaped::NoRoom
 }

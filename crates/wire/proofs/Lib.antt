@@ -3,3 +3,4 @@ pub mod Examples
 pub mod Bounds
 pub mod Promises
 pub mod Sizes
+mod Decoded

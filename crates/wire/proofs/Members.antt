@@ -13,8 +13,8 @@ use Rattle.wire_schema.specs.Schema.{schema, kind_of}
 use Rattle.wire_check_field.specs.Check.{check_of}
 use Rattle.wire_fields.specs.Fields.{last_in, start_from, end_from}
 use Rattle.wire_fields.specs.Items.{Item, items}
-use Rattle.wire_check_field.specs.declared.Checked.{Checked}
-use Rattle.wire_check_field.specs.declared.Checked.TheVariants as checked
+use Rattle.std.specs.Prelude.{Option, Some, None, Result, Ok, Err}
+use Rattle.wire_types.specs.declared.Refused.{Refused}
 use Rattle.wire_fields.specs.declared.Last.{Last}
 use Rattle.wire_fields.specs.declared.Last.TheVariants as last
 use Rattle.wire_schema.proofs.Rows.{kinds}
@@ -22,13 +22,13 @@ use Rattle.wire_fields.proofs.Follow.{LastInBounds, last_in_in_bounds, span_in_b
 use Rattle.wire_fields.proofs.Items.{content_of, last_means, bytes_means}
 use Rattle.wire_walk_io.specs.Places.{time_in, io_read, io_buffer_of}
 use Rattle.wire_walk_client.specs.Client.{member_read, client_from, client_read, client_of}
-use Rattle.wire_types.specs.declared.ClientRead.{ClientRead}
+use Rattle.wire_types.specs.declared.ClientMember.{ClientMember}
 use Rattle.wire_message.specs.Message.{client_member, server_member, io_buf, timed}
 use Rattle.wire_message.specs.Places.{time_value}
 use Rattle.wire_message.proofs.Meaning.{time_means}
 use Rattle.wire.specs.Read.{value, after, member, client_message, server_message}
 use Rattle.wire.specs.Places.{server_from, server_read, server_of, client_value, server_value}
-use Rattle.wire.specs.declared.ServerRead.{ServerRead}
+use Rattle.wire.specs.declared.ServerMember.{ServerMember}
 
 -- the members whose message is an IoBuffer are 6 to 10
 io_rule : ℕ → ℕ → Bool
@@ -62,27 +62,27 @@ io_value s a e h l =
     rw (time_means 1 p, ← part_part s a e (start_from (last_in 2 2 p)) (end_from (last_in 2 2 p)) w, bytes_means p 2)
 
 module _ (s : List ℕ) (f a e : ℕ) (h : a ≤ e) (l : e ≤ length s) where
-  io_told : (c : Checked) → kind_of 0 f ≡ 22
-      → client_value s (member_read f a e true (io_read c (time_in 1 (part s a e)) (last_in 2 2 (part s a e)))) ≡ value (client_member f (items (part s a e)))
+  io_told : (c : Result Unit Refused) → kind_of 0 f ≡ 22
+      → client_value s (Ok (Some (member_read f a e true (io_read c (time_in 1 (part s a e)) (last_in 2 2 (part s a e)))))) ≡ value (client_member f (items (part s a e)))
   unfolding client_value member_read io_read
-  io_told checked.Fine k = rw (io_member f (items (part s a e)) k, io_value s a e h l)
-  io_told (checked.Refused r p) k = refl
+  io_told (Ok u) k = rw (io_member f (items (part s a e)) k, io_value s a e h l)
+  io_told (Err r) k = refl
 
-  told : (t : Bool) → eqb (kind_of 0 f) 22 ≡ t → client_value s (member_read f a e t (io_buffer_of (part s a e))) ≡ value (client_member f (items (part s a e)))
+  told : (t : Bool) → eqb (kind_of 0 f) 22 ≡ t → client_value s (Ok (Some (member_read f a e t (io_buffer_of (part s a e))))) ≡ value (client_member f (items (part s a e)))
   unfolding client_value member_read
   told true k = io_told (check_of 6 (part s a e)) (eqb-true (kind_of 0 f) 22 k)
   told false k = refl
 
-from : (s : List ℕ) (x : Last) → LastInBounds s x → client_value s (client_from s x) ≡ member (λ n d. client_member n (items d)) (content_of s x)
+from : (s : List ℕ) (x : Option Last) → LastInBounds s x → client_value s (Ok (client_from s x)) ≡ member (λ n d. client_member n (items d)) (content_of s x)
 unfolding client_from client_value member
-from s last.Nothing h = refl
-from s (last.Number f v) h = refl
-from s (last.Part f a e) h = told s f a e h.0 h.1 (eqb (kind_of 0 f) 22) refl
+from s None h = refl
+from s (Some (last.Number f v)) h = refl
+from s (Some (last.Part f a e)) h = told s f a e h.0 h.1 (eqb (kind_of 0 f) 22) refl
 
-checked_first : (s : List ℕ) (c : Checked) (x : ClientRead) → client_value s (client_read c x) ≡ after c (client_value s x)
+checked_first : (s : List ℕ) (c : Result Unit Refused) (x : Option ClientMember) → client_value s (client_read c x) ≡ after c (client_value s (Ok x))
 unfolding client_read client_value after
-checked_first s checked.Fine x = refl
-checked_first s (checked.Refused r p) x = refl
+checked_first s (Ok u) x = refl
+checked_first s (Err e) x = refl
 
 pub client_means : (s : List ℕ) → client_value s (client_of s) ≡ client_message s
 unfolding client_message
@@ -92,16 +92,16 @@ client_means s =
 
 -- ---- a ServerMessage
 
-server_from_lem : (s : List ℕ) (x : Last) → server_value s (server_from x) ≡ member server_member (content_of s x)
+server_from_lem : (s : List ℕ) (x : Option Last) → server_value s (Ok (server_from x)) ≡ member server_member (content_of s x)
 unfolding server_from server_value member
-server_from_lem s last.Nothing = refl
-server_from_lem s (last.Number f v) = refl
-server_from_lem s (last.Part f a e) = refl
+server_from_lem s None = refl
+server_from_lem s (Some (last.Number f v)) = refl
+server_from_lem s (Some (last.Part f a e)) = refl
 
-server_checked : (s : List ℕ) (c : Checked) (x : ServerRead) → server_value s (server_read c x) ≡ after c (server_value s x)
+server_checked : (s : List ℕ) (c : Result Unit Refused) (x : Option ServerMember) → server_value s (server_read c x) ≡ after c (server_value s (Ok x))
 unfolding server_read server_value after
-server_checked s checked.Fine x = refl
-server_checked s (checked.Refused r p) x = refl
+server_checked s (Ok u) x = refl
+server_checked s (Err e) x = refl
 
 pub server_means : (s : List ℕ) → server_value s (server_of s) ≡ server_message s
 unfolding server_message

@@ -13,8 +13,8 @@ use Rattle.wire_check_field.proofs.Numbered.{CheckTold, check_told}
 use Rattle.wire_check_field.specs.Check.{check_of}
 use Rattle.wire_fields.specs.Fields.{among}
 use Rattle.wire_fields.specs.Items.{Item, none, number, bytes, items, last_from, last_item}
-use Rattle.wire_check_field.specs.declared.Checked.{Checked}
-use Rattle.wire_check_field.specs.declared.Checked.TheVariants as checked
+use Rattle.std.specs.Prelude.{Result, Ok, Err}
+use Rattle.wire_types.specs.declared.Refused.{Refused}
 use Rattle.wire_message.specs.Message.{Bytes, Client, accept_msg, reject_msg, exit_msg, restart_msg, alert_msg, io_buf, winsize_event, suspend_event, hello_msg, client_member}
 use Rattle.wire.specs.Read.{Reading, value, refused, after, member, client_message, server_message}
 
@@ -70,10 +70,10 @@ abbrev pub ReadKnown : Reading Client → Type 0
 ReadKnown (value c) = Known c
 ReadKnown (refused n) = Unit {0}
 
-after_known : (c : Checked) (r : Reading Client) → ReadKnown r → ReadKnown (after c r)
+after_known : (c : Result Unit Refused) (r : Reading Client) → ReadKnown r → ReadKnown (after c r)
 unfolding after
-after_known checked.Fine r h = h
-after_known (checked.Refused n p) r h = tt
+after_known (Ok u) r h = h
+after_known (Err e) r h = tt
 
 item_known : (i : Item) → Named 1 13 i → ReadKnown (member (λ n d. client_member n (items d)) i)
 unfolding member
@@ -91,10 +91,10 @@ abbrev pub ReadNumbered : {A : Type 0} → Reading A → Type 0
 ReadNumbered (value a) = Unit {0}
 ReadNumbered (refused n) = (2 ≤ n) × (n ≤ 6)
 
-after_numbered : {A : Type 0} (c : Checked) (r : Reading A) → CheckTold c → ReadNumbered r → ReadNumbered (after c r)
+after_numbered : {A : Type 0} (c : Result Unit Refused) (r : Reading A) → CheckTold c → ReadNumbered r → ReadNumbered (after c r)
 unfolding after
-after_numbered checked.Fine r h k = k
-after_numbered (checked.Refused n p) r h k = (h.0, omega (arith, h.1))
+after_numbered (Ok u) r h k = k
+after_numbered (Err e) r h k = (h.0, omega (arith, h.1))
 
 member_numbered : {A : Type 0} (f : ℕ → List ℕ → A) (i : Item) → ReadNumbered (member f i)
 unfolding member

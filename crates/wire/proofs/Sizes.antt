@@ -12,13 +12,13 @@ use Rattle.base_laws.proofs.Order.{picked}
 use Rattle.base_laws.proofs.Parts.{length_part}
 use Rattle.wire_schema.specs.Schema.{ClientMessage}
 use Rattle.wire_check_field.specs.Check.{check_of}
-use Rattle.wire_fields.specs.Fields.{field_at, on_field, fields_from, fields_at, among}
+use Rattle.wire_fields.specs.Fields.{field_at, next_of, on_field, fields_from, fields_at, among}
 use Rattle.wire_fields.specs.Items.{Item, none, number, bytes, item_of, items, last_from, last_item, bytes_of}
-use Rattle.wire_check_field.specs.declared.Checked.{Checked}
-use Rattle.wire_check_field.specs.declared.Checked.TheVariants as checked
+use Rattle.std.specs.Prelude.{Option, Some, None, Result, Ok, Err}
+use Rattle.wire_types.specs.declared.Refused.{Refused}
 use Rattle.wire_fields.specs.declared.Field.{Field}
 use Rattle.wire_fields.specs.declared.Field.TheVariants as field
-use Rattle.wire_fields.proofs.Follow.{FieldRead, field_read}
+use Rattle.wire_fields.proofs.Follow.{FieldRead, MaybeRead, field_read, behind}
 use Rattle.wire_check_field.proofs.Walk.{alone}
 use Rattle.wire_message.specs.Message as m
 use Rattle.wire_message.specs.Message.{Bytes, Exit, Client, accept_msg, reject_msg, exit_msg, restart_msg, alert_msg, io_buf, winsize_event, suspend_event, hello_msg, client_member}
@@ -40,12 +40,15 @@ module _ (s : Bytes) where
   abbrev Within : ℕ → List Field → Type 0
   Within at fs = at + rooms (map (item_of s) fs) ≤ length s
 
-  on_field_lem : (at : ℕ) → at ≤ length s → (go : ℕ → List Field) → ((n : ℕ) → n ≤ length s → Within n (go n)) → (e : Field) → FieldRead s at e → Within at (on_field go e)
+  one_field : (at : ℕ) (fs : List Field) (e : Field) → FieldRead s at e → Within (next_of e) fs → Within at (e ∷ fs)
+  one_field at fs (field.Number f v n) r h = omega (arith, h, r.0)
+  one_field at fs (field.Fixed f n) r h = omega (arith, h, r.0)
+  one_field at fs (field.Part f a e) r h = omega (arith, h, r.0, r.1, length_part s a e r.1 r.2)
+
+  on_field_lem : (at : ℕ) → at ≤ length s → (go : ℕ → List Field) → ((n : ℕ) → n ≤ length s → Within n (go n)) → (e : Option Field) → MaybeRead s at e → Within at (on_field go e)
   unfolding on_field
-  on_field_lem at l go ih (field.Number f v n) r = omega (arith, ih n r.1, r.0)
-  on_field_lem at l go ih (field.Fixed f n) r = omega (arith, ih n r.1, r.0)
-  on_field_lem at l go ih (field.Part f a e) r = omega (arith, ih e r.2, r.0, r.1, length_part s a e r.1 r.2)
-  on_field_lem at l go ih field.Broken r = omega arith
+  on_field_lem at l go ih (Some e) r = one_field at (go (next_of e)) e r (ih (next_of e) (behind s at e r).1)
+  on_field_lem at l go ih None r = omega arith
 
   fields_within : (k at : ℕ) → at ≤ length s → Within at (fields_from k s at)
   unfolding fields_from
@@ -134,10 +137,10 @@ item_short none c h e = let z : ◌≡◌ {A = ℕ} 0 1 = cc in absurd (omega ar
 item_short (number f v) c h e = let z : ◌≡◌ {A = ℕ} 0 1 = cc in absurd (omega arith)
 item_short (bytes f d) c h e = let q : client_member f (items d) ≡ c = cc in subst Short q (member_short f d (omega arith))
 
-checked_same : (k : Checked) (r : Reading Client) (c : Client) → after k r ≡ value c → r ≡ value c
+checked_same : (k : Result Unit Refused) (r : Reading Client) (c : Client) → after k r ≡ value c → r ≡ value c
 unfolding after
-checked_same checked.Fine r c e = e
-checked_same (checked.Refused n p) r c e = let z : ◌≡◌ {A = ℕ} 0 1 = cc in absurd (omega arith)
+checked_same (Ok u) r c e = e
+checked_same (Err x) r c e = let z : ◌≡◌ {A = ℕ} 0 1 = cc in absurd (omega arith)
 
 pub reads_short : (t : Bytes) (c : Client) → length t ≤ 2097152 → client_message t ≡ value c → Short c
 unfolding client_message

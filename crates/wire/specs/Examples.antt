@@ -1,21 +1,20 @@
 -- Document 01's marked examples, as far as they speak of reading, each shown of the definitions.
-use Rattle.std.specs.Prelude.{ℕ, ◌≡◌, List, [], ◌∷◌, ℤ, pos, negsuc}
+use Rattle.std.specs.Prelude.{ℕ, ◌≡◌, List, [], ◌∷◌, ℤ, pos, negsuc, Result, Ok, Err}
 use Rattle.base_laws.specs.Base.{part}
 use Rattle.wire_frame.specs.Frame.{cut_of}
 use Rattle.wire_frame.specs.declared.Cut.TheVariants as cut
 use Rattle.wire_varint.specs.Varint.{varint_at}
 use Rattle.wire_fields.specs.Items.{items}
 use Rattle.wire_varint.specs.declared.Varint.{Varint}
-use Rattle.wire_varint.specs.declared.Varint.TheVariants.{Value, PastEnd, TooLong}
+use Rattle.wire_varint.specs.declared.VarintError.{VarintError}
 use Rattle.wire_message.specs.Signed.{int64, int32}
 use Rattle.wire_message.specs.Message.{time_spec, io_buf, commit_point}
 use Rattle.wire.specs.Read.{value, client_message, server_message}
 
 -- the number that a varint's bytes give by a reading of its bits, with the place past it
-abbrev pub read_as : (ℕ → ℤ) → Varint → List ℤ
-read_as f (Value v n) = f v ∷ pos n ∷ []
-read_as f PastEnd = []
-read_as f TooLong = []
+abbrev pub read_as : (ℕ → ℤ) → Result Varint VarintError → List ℤ
+read_as f (Ok r) = f r.value ∷ pos r.next ∷ []
+read_as f (Err e) = []
 
 -- example 1's bytes, and example 2's and 6's frames
 abbrev pub time_bytes : List ℕ

@@ -1,11 +1,12 @@
 -- Reading a message: the value, or the refusal by document 01's order. "A reader by itself gives 2 to 6, then 7."
-use Rattle.std.specs.Prelude.{ℕ, List, Bool, true, false, eqb}
+use Rattle.std.specs.Prelude.{ℕ, List, Bool, true, false, Result, Ok, Err, eqb}
 use Rattle.base_laws.specs.Base.{pick}
 use Rattle.wire_schema.specs.Schema.{ClientMessage, ServerMessage}
 use Rattle.wire_check_field.specs.Check.{check_of}
 use Rattle.wire_fields.specs.Items.{Item, none, number, bytes, items, last_item, bytes_of}
-use Rattle.wire_check_field.specs.declared.Checked.{Checked}
-use Rattle.wire_check_field.specs.declared.Checked.TheVariants as checked
+use Rattle.wire_types.specs.Refusals.{number_of}
+use Rattle.wire_types.specs.declared.Refusal.{Refusal}
+use Rattle.wire_types.specs.declared.Refused.{Refused}
 use Rattle.wire_message.specs.Message.{Client, Server, client_member, server_member}
 use Rattle.wire_range.specs.Range.{in_range}
 
@@ -15,9 +16,9 @@ pub data Reading (A : Type 0) : Type 0 where
   refused : ℕ → Reading A
 
 -- refusals 2 to 5 by the check of the whole message, else what follows
-unfoldable pub after : {A : Type 0} → Checked → Reading A → Reading A
-after checked.Fine r = r
-after (checked.Refused n p) r = refused n
+unfoldable pub after : {A : Type 0} → Result Unit Refused → Reading A → Reading A
+after (Ok u) r = r
+after (Err e) r = refused (number_of e.refusal)
 
 -- 6 where a ClientMessage or a ServerMessage has no member, else the member by its number and its bytes
 unfoldable pub member : {A : Type 0} → (ℕ → List ℕ → A) → Item → Reading A
@@ -38,9 +39,13 @@ server_message s = after (check_of ServerMessage s) (member server_member (last_
 
 -- ---- the refusal alone, of any message by its number: 0 for none
 
-unfoldable pub check_number : Checked → ℕ → ℕ
-check_number checked.Fine next = next
-check_number (checked.Refused n p) next = n
+abbrev pub refusal_number : Result Unit Refusal → ℕ
+refusal_number (Ok u) = 0
+refusal_number (Err r) = number_of r
+
+unfoldable pub check_number : Result Unit Refused → ℕ → ℕ
+check_number (Ok u) next = next
+check_number (Err e) next = number_of e.refusal
 
 unfoldable pub is_absent : Item → Bool
 is_absent none = true

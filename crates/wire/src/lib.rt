@@ -5,121 +5,95 @@
 ghost use Rattle.std.specs.Prelude.{◌≡◌};
 ghost use Rattle.wire_fields.specs.Items.{items, last_item};
 ghost use Rattle.wire_walk_client.specs.Client.{client_of};
-ghost use Rattle.wire.specs.Read.{is_absent, no_member, decode_number, read_number, client_message, server_message};
+ghost use Rattle.wire.specs.Read.{is_absent, no_member, refusal_number, decode_number, read_number, client_message, server_message};
 ghost use Rattle.wire.specs.Places.{server_of, client_value, server_value};
 
 use wire_check::check;
-use wire_check_field::Checked;
 use wire_fast_client::client;
 use wire_fields::{Last, last_in};
 use wire_range::in_range;
 use wire_schema::{CLIENT_MESSAGE, SERVER_MESSAGE};
-use wire_types::ClientRead;
+use wire_types::{ClientMember, Refusal, Refused, Span};
 
 // Has a oneof no member: its members are the fields from lo to hi.
 fn is_absent(s: &[u8], lo: u64, hi: u64) -> bool
     ensures { result ≡ is_absent (last_item lo hi (items s.now)) }
 {
     match last_in(s, lo, hi) {
-        Last::Nothing => true,
-        Last::Number {
-            number: _,
-            value: _,
-        } => true,
-        Last::Part {
-            number: _,
-            start: _,
-            end: _,
-        } => false,
+        None => true,
+        Some(Last::Number { .. }) => true,
+        Some(Last::Part { .. }) => false,
     }
 }
 
-// Is it a ClientMessage or a ServerMessage with no member.
+// Is it a ClientMessage or a ServerMessage with no member. The message is a number and no enum: `sudolog_decode` and `sudolog_read` take any,
+// and `decode_number` and `read_number` range over all.
+#[tactic(auto, using(base_laws::proofs::Tests::tests), unfolding(crate::specs::Read::no_member))]
 fn no_member(message: u8, s: &[u8]) -> bool
     ensures { result ≡ no_member message (items s.now) }
 {
-    if message == CLIENT_MESSAGE {
-        return is_absent(s, 1, 13);
+    match message {
+        CLIENT_MESSAGE => is_absent(s, 1, 13),
+        SERVER_MESSAGE => is_absent(s, 1, 5),
+        _ => false,
     }
-    if message == SERVER_MESSAGE {
-        return is_absent(s, 1, 5);
-    }
-    false
 }
 
-// A message's refusal as a session reads it, 2 to 6; 0 for none.
-pub fn decode(message: u8, s: &[u8]) -> u8
-    ensures { result ≡ decode_number message s.now }
+// A message's refusal as a session reads it, 2 to 6.
+pub fn decode(message: u8, s: &[u8]) -> Result<(), Refusal>
+    ensures { refusal_number result ≡ decode_number message s.now }
 {
     match check(message, s) {
-        Checked::Refused { refusal, place: _ } => refusal,
-        Checked::Fine => {
+        Err(refused) => Err(refused.refusal),
+        Ok(()) => {
             if no_member(message, s) {
-                return 6;
+                return Err(Refusal::NoMember);
             }
-            0
+            Ok(())
         }
     }
 }
 
-// A message's refusal as a reader by itself gives it, 2 to 7; 0 for none.
-pub fn read(message: u8, s: &[u8]) -> u8
-    ensures { result ≡ read_number message s.now }
+// A message's refusal as a reader by itself gives it, 2 to 7.
+pub fn read(message: u8, s: &[u8]) -> Result<(), Refusal>
+    ensures { refusal_number result ≡ read_number message s.now }
 {
-    match check(message, s) {
-        Checked::Refused { refusal, place: _ } => refusal,
-        Checked::Fine => {
-            if no_member(message, s) {
-                return 6;
-            }
-            if in_range(message, s) {
-                return 0;
-            }
-            7
-        }
+    decode(message, s)?;
+    if in_range(message, s) {
+        return Ok(());
     }
+    Err(Refusal::Range)
 }
 
-// A ClientMessage in one walk.
-pub fn client_message(s: &[u8]) -> ClientRead
+// A ClientMessage in one walk: its last member, if it has one.
+pub fn client_message(s: &[u8]) -> Result<Option<ClientMember>, Refused>
     ensures places { result ≡ client_of s.now }
     ensures means { client_value s.now result ≡ client_message s.now }
 {
     client(s)
 }
 
-// A ServerMessage: its last member, or its refusal with the place.
-#[derive(Drop)]
-pub enum ServerRead {
-    NoMember,
-    Member {
-        member: u64,
-        start: usize,
-        end: usize,
-    },
-    Refused {
-        refusal: u8,
-        place: usize,
-    },
+// The last member of a ServerMessage: its number, and where its bytes are.
+#[derive(Clone, Copy)]
+pub struct ServerMember {
+    pub member: u64,
+    pub bytes: Span,
 }
 
-pub fn server_message(s: &[u8]) -> ServerRead
+// A ServerMessage: its last member, if it has one.
+pub fn server_message(s: &[u8]) -> Result<Option<ServerMember>, Refused>
     ensures places { result ≡ server_of s.now }
     ensures means { server_value s.now result ≡ server_message s.now }
 {
     match check(SERVER_MESSAGE, s) {
-        Checked::Refused { refusal, place } => ServerRead::Refused { refusal, place },
-        Checked::Fine => match last_in(s, 1, 5) {
-            Last::Nothing => ServerRead::NoMember,
-            Last::Number {
-                number: _,
-                value: _,
-            } => ServerRead::NoMember,
-            Last::Part { number, start, end } => ServerRead::Member {
+        Err(refused) => Err(refused),
+        Ok(()) => match last_in(s, 1, 5) {
+            None => Ok(None),
+            Some(Last::Number { .. }) => Ok(None),
+            Some(Last::Part { number, start, end }) => Ok(Some(ServerMember {
                 member: number,
-                start,
-                end,
-            },
+                bytes: Span { start, end },
+            })),
         },
     }
 }

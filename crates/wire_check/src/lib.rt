@@ -7,21 +7,21 @@ ghost use Rattle.std.specs.Prelude.{◌≡◌};
 ghost use Rattle.wire_check_field.specs.Check.{check_of};
 
 use crate::entry::sound_entry;
-use wire_check_field::{Checked, Step, step_at};
+use wire_check_field::{Step, step_at};
 use wire_schema::INFO_MESSAGE;
+use wire_types::Refused;
 
 // The check of a message: the leftmost refusal of 2 to 5, depth first. Most bytes of an accept are in its entries, which have a fast path.
-pub fn check(message: u8, s: &[u8]) -> Checked
+// The message is a number and no enum, as in `step_at`. The loop goes from field to field, and counts no index.
+pub fn check(message: u8, s: &[u8]) -> Result<(), Refused>
     ensures { result ≡ check_of message s.now }
 {
-    if message == INFO_MESSAGE {
-        if sound_entry(s) {
-            return Checked::Fine;
-        }
+    if message == INFO_MESSAGE && sound_entry(s) {
+        return Ok(());
     }
     let mut at: usize = 0;
     while at < s.len() {
-        match step_at(message, s, at) {
+        match step_at(message, s, at)? {
             Step::Next { next } => {
                 at = next;
             }
@@ -30,20 +30,14 @@ pub fn check(message: u8, s: &[u8]) -> Checked
                 start,
                 end,
             } => match check(inner, &s[start..end]) {
-                Checked::Fine => {
+                Ok(()) => {
                     at = end;
                 }
-                Checked::Refused { refusal, place } => {
-                    return Checked::Refused {
-                        refusal,
-                        place: start + place,
-                    };
+                Err(refused) => {
+                    return Err(refused.within(start));
                 }
             },
-            Step::Refused { refusal, place } => {
-                return Checked::Refused { refusal, place };
-            }
         }
     }
-    Checked::Fine
+    Ok(())
 }

@@ -4,22 +4,20 @@ use native.Mathlib.Omega.{arith}
 use mathlib.Core.Path.{◌≡◌, refl, sym, subst, ◌∙◌}
 use mathlib.Core.List.{List}
 use mathlib.Core.Logic.{⊎_elim}
-use lib.ListN.{length, length-take, length-drop}
+use lib.ListN.{length}
+use Rattle.std.specs.Prelude.{Result, Ok, Err}
 use borrow.Author.Tests.{lt-ltb, le-ltb}
 use Rattle.wire_check_field.specs.Check.{step_at}
 use Rattle.base_laws.specs.Base.{part}
 use Rattle.wire_check_field.specs.Check.{before, on_step, check_from, check_at}
 use Rattle.wire_check_field.specs.declared.Step.{Step}
 use Rattle.wire_check_field.specs.declared.Step.TheVariants as step
-use Rattle.wire_check_field.specs.declared.Checked.{Checked}
-use Rattle.wire_check_field.specs.declared.Checked.TheVariants as checked
+use Rattle.wire_types.specs.declared.Refused.{Refused}
 use Rattle.base_laws.proofs.Order.{lt_or_le}
+use Rattle.base_laws.proofs.Parts.{length_part}
 use Rattle.wire_check_field.proofs.Steps.{StepRead, step_at_lem}
 
-pub length_part : (s : List ℕ) (a e : ℕ) → a ≤ e → e ≤ length s → length (part s a e) ≡ e - a
-length_part s a e h l = simp (length-take, length-drop) (omega arith)
-
-pub done : (k m : ℕ) (s : List ℕ) (at : ℕ) → length s ≤ at → check_from k m s at ≡ checked.Fine
+pub done : (k m : ℕ) (s : List ℕ) (at : ℕ) → length s ≤ at → check_from k m s at ≡ Ok tt
 unfolding check_from
 done zero m s at h = refl
 done (suc k) m s at h = simp (le-ltb _ _ h)
@@ -29,14 +27,14 @@ unfolding check_from
 goes k m s at h = simp (lt-ltb _ _ h)
 
 -- two checks that agree where a step leads agree on the step
-same_step : (f g : ℕ → List ℕ → ℕ → Checked) (m : ℕ) (s : List ℕ) (at : ℕ)
+same_step : (f g : ℕ → List ℕ → ℕ → Result Unit Refused) (m : ℕ) (s : List ℕ) (at : ℕ)
     → ((i : ℕ) (r : List ℕ) (b : ℕ) → length r - b < length s - at → f i r b ≡ g i r b)
-    → at < length s → (t : Step) → StepRead s at t → on_step f m s t ≡ on_step g m s t
+    → at < length s → (t : Result Step Refused) → StepRead s at t → on_step f m s t ≡ on_step g m s t
 unfolding on_step
-same_step f g m s at e l (step.Next n) h = e m s n (omega arith)
-same_step f g m s at e l (step.Inside i a b) h =
+same_step f g m s at e l (Ok (step.Next n)) h = e m s n (omega arith)
+same_step f g m s at e l (Ok (step.Inside i a b)) h =
     rw (e i (part s a b) 0 (omega (arith, length_part s a b h.1 h.2)), e m s b (omega arith))
-same_step f g m s at e l (step.Refused r p) h = refl
+same_step f g m s at e l (Err r) h = refl
 
 -- more than enough is enough
 enough : (k j m : ℕ) (s : List ℕ) (at : ℕ) → length s - at < k → length s - at < j → check_from k m s at ≡ check_from j m s at
@@ -58,27 +56,27 @@ next m s at i =
     goes (length s - at) m s at i
     ∙ same_step (check_from (length s - at)) check_at m s at (λ i r b lt. enough (length s - at) (suc (length r - b)) i r b lt (omega arith)) i (step_at m s at) (step_at_lem s m at (omega arith))
 
-pub at_end : (m : ℕ) (s : List ℕ) (at : ℕ) → length s ≤ at → check_at m s at ≡ checked.Fine
+pub at_end : (m : ℕ) (s : List ℕ) (at : ℕ) → length s ≤ at → check_at m s at ≡ Ok tt
 unfolding check_at
 at_end m s at h = done (suc (length s - at)) m s at h
 
 -- a refusal's place is within the list
-abbrev pub Placed : List ℕ → Checked → Type 0
-Placed s checked.Fine = Unit
-Placed s (checked.Refused r p) = p ≤ length s
+abbrev pub Placed : List ℕ → Result Unit Refused → Type 0
+Placed s (Ok fine) = Unit
+Placed s (Err r) = r.place ≤ length s
 
-placed_before : (s : List ℕ) (a : ℕ) (r : List ℕ) → a + length r ≤ length s → (x y : Checked) → Placed r x → Placed s y → Placed s (before a x y)
+placed_before : (s : List ℕ) (a : ℕ) (r : List ℕ) → a + length r ≤ length s → (x y : Result Unit Refused) → Placed r x → Placed s y → Placed s (before a x y)
 unfolding before
-placed_before s a r h checked.Fine y p q = q
-placed_before s a r h (checked.Refused n l) y p q = omega arith
+placed_before s a r h (Ok fine) y p q = q
+placed_before s a r h (Err e) y p q = omega arith
 
-placed_step : (f : ℕ → List ℕ → ℕ → Checked) → ((m : ℕ) (s : List ℕ) (at : ℕ) → Placed s (f m s at))
-    → (m : ℕ) (s : List ℕ) (at : ℕ) (t : Step) → StepRead s at t → Placed s (on_step f m s t)
+placed_step : (f : ℕ → List ℕ → ℕ → Result Unit Refused) → ((m : ℕ) (s : List ℕ) (at : ℕ) → Placed s (f m s at))
+    → (m : ℕ) (s : List ℕ) (at : ℕ) (t : Result Step Refused) → StepRead s at t → Placed s (on_step f m s t)
 unfolding on_step
-placed_step f e m s at (step.Next n) h = e m s n
-placed_step f e m s at (step.Inside i a b) h =
+placed_step f e m s at (Ok (step.Next n)) h = e m s n
+placed_step f e m s at (Ok (step.Inside i a b)) h =
     placed_before s a (part s a b) (omega (arith, length_part s a b h.1 h.2)) (f i (part s a b) 0) (f m s b) (e i (part s a b) 0) (e m s b)
-placed_step f e m s at (step.Refused r p) h = h
+placed_step f e m s at (Err r) h = h
 
 placed_from : (k m : ℕ) (s : List ℕ) (at : ℕ) → Placed s (check_from k m s at)
 unfolding check_from

@@ -1,5 +1,5 @@
 -- The elements of a message's lists: the bytes of every field of a number, and the numbers of a NumberList.
-use Rattle.std.specs.Prelude.{ℕ, zero, suc, ◌-◌, List, [], ◌∷◌, ◌++◌, map, length, take, ltb, eqb}
+use Rattle.std.specs.Prelude.{ℕ, zero, suc, ◌-◌, List, [], ◌∷◌, ◌++◌, Option, Some, None, Result, Ok, Err, map, length, take, ltb, eqb}
 use Rattle.base_laws.specs.Base.{pick}
 use Rattle.wire_varint.specs.Varint.{varint_at}
 use Rattle.wire_fields.specs.Fields.{fields_at}
@@ -7,9 +7,8 @@ use Rattle.wire_fields.specs.Items.{Item, none, number, bytes, item_of, every_by
 use Rattle.wire_fields.specs.declared.Field.{Field}
 use Rattle.wire_fields.specs.declared.Field.TheVariants as field
 use Rattle.wire_varint.specs.declared.Varint.{Varint}
-use Rattle.wire_varint.specs.declared.Varint.TheVariants.{Value, PastEnd, TooLong}
-use Rattle.wire_elements.specs.declared.Next.{Next}
-use Rattle.wire_elements.specs.declared.Next.TheVariants as next
+use Rattle.wire_varint.specs.declared.VarintError.{VarintError}
+use Rattle.wire_elements.specs.declared.Element.{Element}
 
 -- the items from a place on
 abbrev pub items_at : List ℕ → ℕ → List Item
@@ -20,10 +19,9 @@ abbrev pub elements_at : ℕ → List ℕ → ℕ → List (List ℕ)
 elements_at f s at = every_bytes f (items_at s at)
 
 -- a varint and those that follow it; none from a broken one on
-unfoldable pub on_varint : (ℕ → List ℕ) → Varint → List ℕ
-on_varint go (Value v n) = v ∷ go n
-on_varint go PastEnd = []
-on_varint go TooLong = []
+unfoldable pub on_varint : (ℕ → List ℕ) → Result Varint VarintError → List ℕ
+on_varint go (Ok r) = r.value ∷ go r.next
+on_varint go (Err e) = []
 
 unfoldable pub varints_from : ℕ → List ℕ → ℕ → List ℕ
 varints_from zero d at = []
@@ -51,25 +49,27 @@ numbers_at s at end = varints_at (take end s) at ++ numbers_of (items_at s (pick
 
 -- ---- one number after the other, by a cursor
 
+-- a number that was found, with the cursor past it
+abbrev pub element : ℕ → ℕ → ℕ → Option Element
+element v a e = Some (record { value = v; at = a; end = e })
+
 -- the number of a varint in a part that ends at e, with the cursor past it; where it has none, what the fields that follow give
-unfoldable pub first_in : ℕ → Next → Varint → Next
-first_in e rest (Value v n) = next.Value v n e
-first_in e rest PastEnd = rest
-first_in e rest TooLong = rest
+unfoldable pub first_in : ℕ → Option Element → Result Varint VarintError → Option Element
+first_in e rest (Ok r) = element r.value r.next e
+first_in e rest (Err d) = rest
 
 -- the first number of some fields; one that is not packed is in no part, so its cursor is at its own end
-unfoldable pub first_number : List ℕ → List Field → Next
-first_number s [] = next.Nothing
-first_number s (field.Number f v n ∷ fs) = pick (eqb f 1) (next.Value v n n) (first_number s fs)
+unfoldable pub first_number : List ℕ → List Field → Option Element
+first_number s [] = None
+first_number s (field.Number f v n ∷ fs) = pick (eqb f 1) (element v n n) (first_number s fs)
 first_number s (field.Fixed f n ∷ fs) = first_number s fs
 first_number s (field.Part f a e ∷ fs) = pick (eqb f 1) (first_in e (first_number s fs) (varint_at (take e s) a)) (first_number s fs)
-first_number s (field.Broken ∷ fs) = first_number s fs
 
 -- the next number at a cursor: of the packed part that it is in, else of the fields past it
-unfoldable pub next_number : List ℕ → ℕ → ℕ → Next
+unfoldable pub next_number : List ℕ → ℕ → ℕ → Option Element
 next_number s at end = first_in end (first_number s (fields_at s (pick (ltb at end) end at))) (varint_at (take end s) at)
 
 -- a number found, and those left at its cursor: of `next_number`, the numbers that were left before it (proofs/Numbers.antt: next_tells)
-unfoldable pub told : List ℕ → Next → List ℕ
-told s (next.Value v a e) = v ∷ numbers_at s a e
-told s next.Nothing = []
+unfoldable pub told : List ℕ → Option Element → List ℕ
+told s (Some x) = x.value ∷ numbers_at s x.at x.end
+told s None = []

@@ -1,313 +1,189 @@
 // A ClientMessage. I/O buffers have a fast path, for the form in which clients send them: one member that is the whole message, a delay,
-// then the data to the end. That is nearly every message of a session. What is in another form, damaged messages too, takes the walk.
+// then the data to the end. That is nearly every message of a session. What is in another form, damaged messages too, takes the walk:
+// the functions of the fast path then answer `None`.
 #![tactic(auto)]
 
-ghost use Rattle.std.specs.Prelude.{◌≡◌, length};
+ghost use Rattle.std.specs.Prelude.{◌≡◌, Ok, length};
 ghost use Rattle.wire_varint.specs.Varint.{varint_at};
 ghost use Rattle.wire_value.specs.Field.{part_of};
-ghost use Rattle.wire_value.specs.declared.Payload.TheVariants.{Part};
 ghost use Rattle.wire_walk_client.specs.Client.{client_of};
 ghost use Rattle.wire_fast_client.specs.Plain.{byte_is, is_io, HasTag, Ends, TimeSaid, Tailed, IoSaid, IoTag, ClientSaid};
 
-use base_laws::wide;
-use wire_fields::{Found, part_found};
-use wire_types::ClientRead;
+use wire_fields::part_found;
+use wire_types::{ClientMember, Refused, Span, Time, Timed};
 use wire_varint::{Varint, varint_at};
 use wire_walk_client::client_walk;
 
 // Is this the byte at a place: a tag of one byte, where it is below 128.
-fn has_tag(s: &[u8], at: usize, tag: u64) -> bool
+#[tactic(auto, using(base_laws::proofs::Tests::tests), unfolding(crate::specs::Plain::byte_is))]
+fn has_tag(s: &[u8], at: usize, tag: u8) -> bool
     ensures { result ≡ byte_is s.now at tag }
 {
-    if at < s.len() {
-        return wide(s[at]) == tag;
-    }
-    false
+    s.get(at) == Some(&tag)
 }
 
 // ---- the delay
 
-#[derive(Drop)]
-pub enum Ending {
-    Nanos { value: u64 },
-    Other,
-}
-
 // The nanoseconds at a place, where they end the TimeSpec.
-fn nanos_at(s: &[u8], at: usize) -> Ending
+#[tactic(auto, unfolding(crate::specs::Plain::Ends))]
+fn nanos_at(s: &[u8], at: usize) -> Option<u64>
     ensures { Ends s.now at result }
 {
-    if has_tag(s, at, 16) {
-        match varint_at(s, at + 1) {
-            Varint::Value { value, next } => {
-                if next == s.len() {
-                    return Ending::Nanos { value };
-                }
-                return Ending::Other;
-            }
-            Varint::PastEnd => {
-                return Ending::Other;
-            }
-            Varint::TooLong => {
-                return Ending::Other;
-            }
-        }
+    if has_tag(s, at, 16)
+        && let Ok(Varint { value, next }) = varint_at(s, at + 1)
+        && next == s.len()
+    {
+        Some(value)
+    } else {
+        None
     }
-    Ending::Other
-}
-
-#[derive(Drop)]
-pub enum PlainTime {
-    Fine { seconds: u64, nanos: u64 },
-    Other,
 }
 
 // A TimeSpec without seconds: a delay of less than one.
-fn below_second(s: &[u8]) -> PlainTime
+#[tactic(auto, unfolding(crate::specs::Plain::TimeSaid))]
+fn below_second(s: &[u8]) -> Option<Time>
     ensures { TimeSaid s.now result }
 {
-    match nanos_at(s, 0) {
-        Ending::Nanos { value } => PlainTime::Fine {
-            seconds: 0,
-            nanos: value,
-        },
-        Ending::Other => PlainTime::Other,
-    }
+    let nanos = nanos_at(s, 0)?;
+    Some(Time { seconds: 0, nanos })
 }
 
 // A TimeSpec whose seconds come first.
-fn from_seconds(s: &[u8]) -> PlainTime
+#[tactic(auto, unfolding(crate::specs::Plain::TimeSaid))]
+fn from_seconds(s: &[u8]) -> Option<Time>
     ensures { TimeSaid s.now result }
 {
     if has_tag(s, 0, 8) {
-        match varint_at(s, 1) {
-            Varint::Value { value, next } => {
-                if next == s.len() {
-                    return PlainTime::Fine {
-                        seconds: value,
-                        nanos: 0,
-                    };
-                }
-                match nanos_at(s, next) {
-                    Ending::Nanos { value: nanos } => {
-                        return PlainTime::Fine {
-                            seconds: value,
-                            nanos,
-                        };
-                    }
-                    Ending::Other => {
-                        return PlainTime::Other;
-                    }
-                }
-            }
-            Varint::PastEnd => {
-                return PlainTime::Other;
-            }
-            Varint::TooLong => {
-                return PlainTime::Other;
-            }
+        let Ok(
+            Varint {
+                value: seconds,
+                next,
+            },
+        ) = varint_at(s, 1)
+        else {
+            return None;
+        };
+        if next == s.len() {
+            return Some(Time { seconds, nanos: 0 });
         }
+        let nanos = nanos_at(s, next)?;
+        return Some(Time { seconds, nanos });
     }
     below_second(s)
 }
 
-fn plain_time(s: &[u8]) -> PlainTime
+fn plain_time(s: &[u8]) -> Option<Time>
     ensures { TimeSaid s.now result }
 {
-    if s.len() == 0 {
-        return PlainTime::Fine {
+    if s.is_empty() {
+        return Some(Time {
             seconds: 0,
             nanos: 0,
-        };
+        });
     }
     from_seconds(s)
 }
 
 // ---- the buffer
 
-#[derive(Drop)]
-pub enum Tail {
-    Data { start: usize, end: usize },
-    Nothing,
-    Other,
-}
-
-// The data at a place, where it ends the IoBuffer.
-fn data_at(s: &[u8], at: usize) -> Tail
+// The data at a place, where it ends the IoBuffer; 0 to 0 where the buffer has ended there.
+#[tactic(auto, unfolding(crate::specs::Plain::Tailed))]
+fn data_at(s: &[u8], at: usize) -> Option<Span>
     ensures { Tailed s.now at result }
 {
     if s.len() <= at {
-        return Tail::Nothing;
+        return Some(Span { start: 0, end: 0 });
     }
     if has_tag(s, at, 18) {
-        match part_found(s, at + 1) {
-            Found::Part { start, end } => {
-                if end == s.len() {
-                    return Tail::Data { start, end };
-                }
-                return Tail::Other;
-            }
-            Found::Nothing => {
-                return Tail::Other;
-            }
+        let data = part_found(s, at + 1)?;
+        if data.end == s.len() {
+            return Some(data);
         }
     }
-    Tail::Other
+    None
 }
 
-#[derive(Drop)]
-pub enum PlainIo {
-    Fine {
-        seconds: u64,
-        nanos: u64,
-        start: usize,
-        end: usize,
-    },
-    Other,
-}
-
-// An IoBuffer whose delay was read, from the delay's end on.
-fn with_data(seconds: u64, nanos: u64, tail: Tail) -> PlainIo
-    ensures { result ≡ Rattle.wire_fast_client.specs.Plain.with_data seconds nanos tail }
-{
-    match tail {
-        Tail::Data { start, end } => PlainIo::Fine {
-            seconds,
-            nanos,
-            start,
-            end,
-        },
-        Tail::Nothing => PlainIo::Fine {
-            seconds,
-            nanos,
-            start: 0,
-            end: 0,
-        },
-        Tail::Other => PlainIo::Other,
-    }
-}
-
-// An IoBuffer whose delay goes from one place to another.
-fn from_delay(s: &[u8], start: usize, end: usize) -> PlainIo
+// An IoBuffer whose delay is at these places.
+#[tactic(auto, unfolding(crate::specs::Plain::IoSaid))]
+fn from_delay(s: &[u8], delay: Span) -> Option<Timed>
     requires has_tag { HasTag s.now 0 10 }
-    requires s_value { part_of s.now 1 (varint_at s.now 1) ≡ Part start end }
+    requires s_value { part_of s.now 1 (varint_at s.now 1) ≡ Ok delay }
     ensures { IoSaid s.now result }
 {
-    match plain_time(&s[start..end]) {
-        PlainTime::Fine { seconds, nanos } => with_data(seconds, nanos, data_at(s, end)),
-        PlainTime::Other => PlainIo::Other,
-    }
+    let time = plain_time(&s[delay.start..delay.end])?;
+    let contents = data_at(s, delay.end)?;
+    Some(Timed {
+        delay: time,
+        contents,
+    })
 }
 
-fn plain_io(s: &[u8]) -> PlainIo
+#[tactic(auto, unfolding(crate::specs::Plain::IoSaid))]
+fn plain_io(s: &[u8]) -> Option<Timed>
     ensures { IoSaid s.now result }
 {
     if has_tag(s, 0, 10) {
-        match part_found(s, 1) {
-            Found::Part { start, end } => {
-                return from_delay(s, start, end);
-            }
-            Found::Nothing => {
-                return PlainIo::Other;
-            }
-        }
+        return from_delay(s, part_found(s, 1)?);
     }
-    PlainIo::Other
+    None
 }
 
 // ---- the message
 
-#[derive(Drop)]
-pub enum PlainClient {
-    Io {
-        member: u64,
-        seconds: u64,
-        nanos: u64,
-        start: usize,
-        end: usize,
-    },
-    Other,
-}
-
 // The tags of the members 6 to 10 in one byte.
+#[tactic(auto, using(base_laws::proofs::Tests::tests), unfolding(crate::specs::Plain::is_io))]
 fn is_io(tag: u64) -> bool
     ensures { result ≡ is_io tag }
 {
-    if tag < 50 {
-        return false;
-    }
-    if 82 < tag {
-        return false;
-    }
-    tag % 8 == 2
+    50 <= tag && tag <= 82 && tag % 8 == 2
 }
 
-// A message whose one member is an I/O buffer that goes from one place to another, the end.
-fn from_member(s: &[u8], tag: u64, start: usize, end: usize) -> PlainClient
+// A message whose one member is an I/O buffer at these places, the last of which is the end.
+#[tactic(auto, unfolding(crate::specs::Plain::ClientSaid))]
+fn from_member(s: &[u8], tag: u64, bytes: Span) -> Option<ClientMember>
     requires io_tag { (IoTag tag) × (HasTag s.now 0 tag) }
-    requires s_value { part_of s.now 1 (varint_at s.now 1) ≡ Part start end }
-    requires end_value { end ≡ length s.now }
+    requires s_value { part_of s.now 1 (varint_at s.now 1) ≡ Ok bytes }
+    requires end_value { bytes.end ≡ length s.now }
     ensures { ClientSaid s.now result }
 {
-    match plain_io(&s[start..end]) {
-        PlainIo::Fine {
-            seconds,
-            nanos,
-            start: a,
-            end: e,
-        } => PlainClient::Io {
-            member: tag / 8,
-            seconds,
-            nanos,
-            start: start + a,
-            end: start + e,
+    let Span { start, end } = bytes;
+    let Timed { delay, contents } = plain_io(&s[start..end])?;
+    Some(ClientMember::Io {
+        member: tag / 8,
+        io: Timed {
+            delay,
+            contents: Span {
+                start: start + contents.start,
+                end: start + contents.end,
+            },
         },
-        PlainIo::Other => PlainClient::Other,
-    }
+    })
 }
 
 // A message whose one member is an I/O buffer.
-fn plain_client(s: &[u8]) -> PlainClient
+#[tactic(auto, unfolding(crate::specs::Plain::ClientSaid))]
+fn plain_client(s: &[u8]) -> Option<ClientMember>
     ensures { ClientSaid s.now result }
 {
-    if s.len() == 0 {
-        return PlainClient::Other;
+    if s.is_empty() {
+        return None;
     }
-    let tag = wide(s[0]);
+    let tag = u64::from(s[0]);
     if is_io(tag) {
-        match part_found(s, 1) {
-            Found::Part { start, end } => {
-                if end == s.len() {
-                    return from_member(s, tag, start, end);
-                }
-                return PlainClient::Other;
-            }
-            Found::Nothing => {
-                return PlainClient::Other;
-            }
+        let bytes = part_found(s, 1)?;
+        if bytes.end == s.len() {
+            return from_member(s, tag, bytes);
         }
     }
-    PlainClient::Other
+    None
 }
 
 // A ClientMessage: its last member, an I/O buffer by its values; or its refusal with the place.
-pub fn client(s: &[u8]) -> ClientRead
+pub fn client(s: &[u8]) -> Result<Option<ClientMember>, Refused>
     ensures { result ≡ client_of s.now }
 {
     match plain_client(s) {
-        PlainClient::Io {
-            member,
-            seconds,
-            nanos,
-            start,
-            end,
-        } => ClientRead::Io {
-            member,
-            seconds,
-            nanos,
-            start,
-            end,
-        },
-        PlainClient::Other => client_walk(s),
+        Some(member) => Ok(Some(member)),
+        None => client_walk(s),
     }
 }

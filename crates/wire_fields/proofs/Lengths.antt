@@ -1,28 +1,20 @@
 -- A length and its bytes: what is found is the part that was read.
 use Prim.Native.Nat.{ℕ}
-use mathlib.Core.Path.{◌≡◌, refl, sym, subst, ◌∙◌}
+use native.Mathlib.Omega.{arith}
+use mathlib.Core.Path.{◌≡◌, sym, ◌∙◌}
 use mathlib.Core.List.{List}
+use Rattle.std.specs.Prelude.{Option, Some, Result, Ok, Err}
+use Rattle.wire_types.specs.declared.Refused.{Refused}
+use Rattle.wire_types.specs.declared.Span.{Span}
 use Rattle.wire_varint.specs.Varint.{varint_at}
 use Rattle.wire_value.specs.Field.{part_of}
-use Rattle.wire_value.specs.declared.Payload.{Payload}
-use Rattle.wire_value.specs.declared.Payload.TheVariants as payload
 use Rattle.wire_fields.specs.Lengths.{found_of}
-use Rattle.wire_fields.specs.declared.Found.{Found}
-use Rattle.wire_fields.specs.declared.Found.TheVariants as found
 
-module _ (q : Payload) where
-  Finds : Found → Type 0
-  Finds (found.Part a e) = q ≡ payload.Part a e
-  Finds found.Nothing = Unit
+finds : (q : Result Span Refused) (p : Span) → found_of q ≡ Some p → q ≡ Ok p
+unfolding found_of
+finds (Ok r) p h = grind arith
+finds (Err e) p h = grind arith
 
-finds : (q : Payload) → Finds q (found_of q)
-unfolding found_of Finds
-finds (payload.Number v n) = tt
-finds (payload.Fixed n) = tt
-finds (payload.Part a e) = refl
-finds (payload.Refused r p) = tt
-
-pub found_part : (s : List ℕ) (at : ℕ) (r : Found) → r ≡ found_of (part_of s at (varint_at s at)) → (a b : ℕ) → r ≡ found.Part a b
-    → part_of s at (varint_at s at) ≡ payload.Part a b
-unfolding Finds
-found_part s at r h a b e = let q : Payload = part_of s at (varint_at s at) in subst (Finds q) (sym h ∙ e) (finds q)
+pub found_part : (s : List ℕ) (at : ℕ) (r : Option Span) → r ≡ found_of (part_of s at (varint_at s at)) → (p : Span) → r ≡ Some p
+    → part_of s at (varint_at s at) ≡ Ok p
+found_part s at r h p e = finds (part_of s at (varint_at s at)) p (sym h ∙ e)

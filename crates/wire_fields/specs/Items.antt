@@ -16,7 +16,6 @@ abbrev pub item_of : List ℕ → Field → Item
 item_of s (field.Number f v n) = number f v
 item_of s (field.Fixed f n) = none
 item_of s (field.Part f a e) = bytes f (part s a e)
-item_of s field.Broken = none
 
 unfoldable pub items : List ℕ → List Item
 items s = map (item_of s) (fields_of s)

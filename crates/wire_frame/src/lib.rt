@@ -1,14 +1,15 @@
 // Frames: the cut of a stream of bytes into messages. Each answer is what specs/Frame says of the bytes at hand.
 #![tactic(auto)]
 
-ghost use Rattle.std.specs.Prelude.{◌≡◌, ◌+◌, ◌*◌};
+ghost use Rattle.std.specs.Prelude.{◌≡◌};
 ghost use Rattle.wire_frame.specs.Frame.{cut_of, frame_state, count_of};
 
 // The length of the longest message in a frame.
 const FRAME_LIMIT: usize = 2097152;
 
-// What stands at the start of a stream.
-#[derive(Drop)]
+// What stands at the start of a stream. Three outcomes, and no Option or Result: each caller acts on all three and hands none on, and the
+// theorems of delivery (claim_delivery) speak of them by these names.
+#[derive(Clone, Copy)]
 pub enum Cut {
     // too few bytes yet: how many are missing to the next decision
     Wait { missing: usize },
@@ -18,22 +19,16 @@ pub enum Cut {
     Refused,
 }
 
-// The number of four bytes, most significant first.
-fn number_of(a: u8, b: u8, c: u8, d: u8) -> usize
-    ensures { result ≡ ((a * 256 + b) * 256 + c) * 256 + d }
-{
-    ((a as usize * 256 + b as usize) * 256 + c as usize) * 256 + d as usize
-}
-
 // The cut at the start of a stream.
+#[tactic(auto, using(crate::proofs::Head::head_number, base_laws::proofs::Tests::tests), unfolding(crate::specs::Frame::cut_of))]
 pub fn cut_frame(s: &[u8]) -> Cut
     ensures { result ≡ cut_of s.now }
 {
     let held = s.len();
-    if held < 4 {
+    let Some(head) = s.first_chunk::<4>() else {
         return Cut::Wait { missing: 4 - held };
-    }
-    let length = number_of(s[0], s[1], s[2], s[3]);
+    };
+    let length = u32::from_be_bytes(*head) as usize;
     if FRAME_LIMIT < length {
         return Cut::Refused;
     }
@@ -46,6 +41,7 @@ pub fn cut_frame(s: &[u8]) -> Cut
 }
 
 // 0 for a whole frame, 1 for a refused one, 2 for one to wait for.
+#[tactic(auto, unfolding(crate::specs::Frame::refusal_of, crate::specs::Frame::frame_state))]
 pub fn state_of(c: Cut) -> u8
     ensures { result ≡ frame_state c }
 {
@@ -57,6 +53,7 @@ pub fn state_of(c: Cut) -> u8
 }
 
 // The message length of a whole frame; how many bytes are missing to one to wait for; 0 for a refused one.
+#[tactic(auto, unfolding(crate::specs::Frame::count_of))]
 pub fn count_of(c: Cut) -> usize
     ensures { result ≡ count_of c }
 {

@@ -2,6 +2,7 @@
 use Prim.Native.Nat.{ℕ}
 use mathlib.Core.Path.{◌≡◌, refl, ap, ◌∙◌}
 use mathlib.Core.List.{List, []}
+use Rattle.std.specs.Prelude.{Option, Some, None}
 use Rattle.base_laws.specs.Base.{pick, part}
 use mathlib.Core.Bool.{Bool, true, false}
 use lib.Dec.{eqb}
@@ -16,7 +17,7 @@ use Rattle.wire_walk_io.specs.Places.{time_numbers, time_from, time_in}
 use Rattle.wire_message.specs.Message.{time_spec, time_field, value_of, accept, exit, restart, timed, window_size}
 use Rattle.wire_message.specs.Places.{Within, accept_at, exit_at, restart_at, timed_at, window_at, held_from, held_in, time_value, accept_value, exit_value, restart_value, timed_value, window_value, value_at}
 use Rattle.wire_message.specs.declared.Exit.{Exit}
-use Rattle.wire_message.specs.declared.Timed.{Timed}
+use Rattle.wire_types.specs.declared.Timed.{Timed}
 use Rattle.wire_message.specs.declared.Value.{Value}
 use Rattle.wire_message.specs.declared.Value.TheVariants as held
 
@@ -30,11 +31,11 @@ time_none : time_value (record { seconds = 0; nanos = 0 }) ≡ time_spec (items 
 unfolding time_value time_spec items fields_at fields_from last_from number_of
 time_none = refl
 
-time_of_lem : (s : List ℕ) (l : Last) → time_value (time_from s l) ≡ time_spec (items (bytes_of (content_of s l)))
+time_of_lem : (s : List ℕ) (l : Option Last) → time_value (time_from s l) ≡ time_spec (items (bytes_of (content_of s l)))
 unfolding time_from bytes_of
-time_of_lem s last.Nothing = time_none
-time_of_lem s (last.Number f v) = time_none
-time_of_lem s (last.Part f a e) = time_is (part s a e)
+time_of_lem s None = time_none
+time_of_lem s (Some (last.Number f v)) = time_none
+time_of_lem s (Some (last.Part f a e)) = time_is (part s a e)
 
 -- a field that is a TimeSpec
 pub time_means : (f : ℕ) (s : List ℕ) → time_value (time_in f s) ≡ time_field f (items s)
@@ -65,16 +66,16 @@ module _ (s : List ℕ) where
   window_means = rw (time_means 1 s, number_means s 2, number_means s 3)
 
   -- an entry's value: a field's number picks the same case on both sides
-  spread : (b : Bool) (v w : Value) → value_at s (pick b v w) ≡ pick b (value_at s v) (value_at s w)
+  spread : (b : Bool) (v w : Option Value) → value_at s (pick b v w) ≡ pick b (value_at s v) (value_at s w)
   spread true v w = refl
   spread false v w = refl
 
-  held_of : (l : Last) → value_at s (held_from l) ≡ value_of (content_of s l)
+  held_of : (l : Option Last) → value_at s (held_from l) ≡ value_of (content_of s l)
   unfolding held_from value_at value_of
-  held_of last.Nothing = refl
-  held_of (last.Number f v) = refl
-  held_of (last.Part f a e) = let p : Span = record { start = a; end = e } in
-      spread (eqb f 3) (held.String p) _ ∙ ap (pick (eqb f 3) _) (spread (eqb f 4) (held.Strings p) _ ∙ ap (pick (eqb f 4) _) (spread (eqb f 5) (held.Numbers p) _))
+  held_of None = refl
+  held_of (Some (last.Number f v)) = refl
+  held_of (Some (last.Part f a e)) = let p : Span = record { start = a; end = e } in
+      spread (eqb f 3) (Some (held.String p)) _ ∙ ap (pick (eqb f 3) _) (spread (eqb f 4) (Some (held.Strings p)) _ ∙ ap (pick (eqb f 4) _) (spread (eqb f 5) (Some (held.Numbers p)) _))
 
   pub held_means : value_at s (held_in s) ≡ value_of (last_item 2 5 (items s))
   held_means = held_of (last_in 2 5 s) ∙ ap value_of (last_means s 2 5)

@@ -1,5 +1,5 @@
 -- What the readers answer of a message's bytes s: numbers as they were read, and places of bytes; and what these stand for.
-use Rattle.std.specs.Prelude.{ℕ, ◌≤◌, List, eqb, length}
+use Rattle.std.specs.Prelude.{ℕ, ◌≤◌, List, Option, Some, None, eqb, length}
 use Rattle.base_laws.specs.Base.{pick, part}
 use Rattle.wire_fields.specs.Fields.{last_in, number_in, span_in}
 use Rattle.wire_fields.specs.Items.{items}
@@ -14,7 +14,7 @@ use Rattle.wire_message.specs.Message.{Bytes, TimeSpec}
 use Rattle.wire_message.specs.declared.Accept.{Accept}
 use Rattle.wire_message.specs.declared.Exit.{Exit}
 use Rattle.wire_message.specs.declared.Restart.{Restart}
-use Rattle.wire_message.specs.declared.Timed.{Timed}
+use Rattle.wire_types.specs.declared.Timed.{Timed}
 use Rattle.wire_message.specs.declared.WindowSize.{WindowSize}
 use Rattle.wire_message.specs.declared.Value.{Value}
 use Rattle.wire_message.specs.declared.Value.TheVariants as held
@@ -43,15 +43,15 @@ unfoldable pub window_at : List ℕ → WindowSize
 window_at s = record { delay = time_in 1 s; rows = number_in 2 s; cols = number_in 3 s }
 
 -- an entry's value, by the last field of its oneof
-unfoldable pub held_from : Last → Value
-held_from last.Nothing = held.Absent
-held_from (last.Number f v) = held.Number v
-held_from (last.Part f a e) =
-    pick (eqb f 3) (held.String (record { start = a; end = e }))
-    (pick (eqb f 4) (held.Strings (record { start = a; end = e }))
-    (pick (eqb f 5) (held.Numbers (record { start = a; end = e })) held.Absent))
+unfoldable pub held_from : Option Last → Option Value
+held_from None = None
+held_from (Some (last.Number f v)) = Some (held.Number v)
+held_from (Some (last.Part f a e)) =
+    pick (eqb f 3) (Some (held.String (record { start = a; end = e })))
+    (pick (eqb f 4) (Some (held.Strings (record { start = a; end = e })))
+    (pick (eqb f 5) (Some (held.Numbers (record { start = a; end = e }))) None))
 
-abbrev pub held_in : List ℕ → Value
+abbrev pub held_in : List ℕ → Option Value
 held_in s = held_from (last_in 2 5 s)
 
 -- ---- what they stand for
@@ -92,9 +92,9 @@ timed_value s t = record { delay = time_value t.delay; contents = bytes_at s t.c
 unfoldable pub window_value : WindowSize → m.WindowSize
 window_value w = record { delay = time_value w.delay; rows = int32 w.rows; cols = int32 w.cols }
 
-unfoldable pub value_at : List ℕ → Value → m.Value
-value_at s held.Absent = m.absent
-value_at s (held.Number v) = m.numval (int64 v)
-value_at s (held.String p) = m.strval (bytes_at s p)
-value_at s (held.Strings p) = m.strlistval (m.string_list (items (bytes_at s p)))
-value_at s (held.Numbers p) = m.numlistval (m.number_list (items (bytes_at s p)))
+unfoldable pub value_at : List ℕ → Option Value → m.Value
+value_at s None = m.absent
+value_at s (Some (held.Number v)) = m.numval (int64 v)
+value_at s (Some (held.String p)) = m.strval (bytes_at s p)
+value_at s (Some (held.Strings p)) = m.strlistval (m.string_list (items (bytes_at s p)))
+value_at s (Some (held.Numbers p)) = m.numlistval (m.number_list (items (bytes_at s p)))

@@ -12,7 +12,7 @@ ghost use Rattle.wire_message.specs.Message as m;
 ghost use Rattle.wire_message.specs.Places.{accept_at, exit_at, restart_at, timed_at, window_at, held_in, time_value, accept_value, exit_value, restart_value, timed_value, window_value, value_at};
 
 use wire_fields::{Last, last_in, number_in, part_in};
-use wire_types::{Span, Time};
+use wire_types::{Span, Time, Timed};
 use wire_walk_io::time::time_in;
 
 // The bool of a field.
@@ -34,7 +34,7 @@ pub fn time_spec_in(s: &[u8]) -> Time
 }
 
 // An AcceptMessage. Its entries are its fields 2, one after the other by `next_part`.
-#[derive(Drop)]
+#[derive(Clone, Copy)]
 pub struct Accept {
     pub submit_time: Time,
     pub expect_iobufs: bool,
@@ -51,7 +51,7 @@ pub fn accept_in(s: &[u8]) -> Accept
 }
 
 // An ExitMessage. The exit value is the low 32 bits of its number.
-#[derive(Drop)]
+#[derive(Clone, Copy)]
 pub struct Exit {
     pub run_time: Time,
     pub exit_value: u64,
@@ -73,7 +73,7 @@ pub fn exit_in(s: &[u8]) -> Exit
     }
 }
 
-#[derive(Drop)]
+#[derive(Clone, Copy)]
 pub struct Restart {
     pub log_id: Span,
     pub resume_point: Time,
@@ -89,13 +89,7 @@ pub fn restart_in(s: &[u8]) -> Restart
     }
 }
 
-// An IoBuffer with its data, or a CommandSuspend with its signal's name.
-#[derive(Drop)]
-pub struct Timed {
-    pub delay: Time,
-    pub contents: Span,
-}
-
+// An IoBuffer or a CommandSuspend.
 pub fn timed_in(s: &[u8]) -> Timed
     ensures places { result ≡ timed_at s.now }
     ensures means { timed_value s.now result ≡ m.timed (items s.now) }
@@ -107,7 +101,7 @@ pub fn timed_in(s: &[u8]) -> Timed
 }
 
 // A ChangeWindowSize. Rows and columns are the low 32 bits of their numbers.
-#[derive(Drop)]
+#[derive(Clone, Copy)]
 pub struct WindowSize {
     pub delay: Time,
     pub rows: u64,
@@ -127,33 +121,26 @@ pub fn window_size_in(s: &[u8]) -> WindowSize
 
 // The value of an entry: a number, or where its bytes are. The strings of a list are its fields 1, its numbers come by
 // `wire_elements::next_number`.
-#[derive(Drop)]
+#[derive(Clone, Copy)]
 pub enum Value {
-    Absent,
     Number(u64),
     String(Span),
     Strings(Span),
     Numbers(Span),
 }
 
-pub fn value_in(s: &[u8]) -> Value
+pub fn value_in(s: &[u8]) -> Option<Value>
     ensures places { result ≡ held_in s.now }
     ensures means { value_at s.now result ≡ m.value_of (last_item 2 5 (items s.now)) }
 {
     match last_in(s, 2, 5) {
-        Last::Nothing => Value::Absent,
-        Last::Number { number: _, value } => Value::Number(value),
-        Last::Part { number, start, end } => {
-            if number == 3 {
-                return Value::String(Span { start, end });
-            }
-            if number == 4 {
-                return Value::Strings(Span { start, end });
-            }
-            if number == 5 {
-                return Value::Numbers(Span { start, end });
-            }
-            Value::Absent
-        }
+        None => None,
+        Some(Last::Number { value, .. }) => Some(Value::Number(value)),
+        Some(Last::Part { number, start, end }) => match number {
+            3 => Some(Value::String(Span { start, end })),
+            4 => Some(Value::Strings(Span { start, end })),
+            5 => Some(Value::Numbers(Span { start, end })),
+            _ => None,
+        },
     }
 }

@@ -20,106 +20,70 @@ use wire_schema::{
     kind_of,
 };
 
+#[tactic(auto, using(base_laws::proofs::Tests::tests), unfolding(crate::specs::Range::accept_fits, wire_message::specs::Message::accept))]
 fn accept_fits(s: &[u8]) -> bool
     ensures { result ≡ accept_fits (m.accept (items s.now)) }
 {
-    if date_in(s, 1) {
-        return entries_fit(s, 2);
-    }
-    false
+    date_in(s, 1) && entries_fit(s, 2)
 }
 
+#[tactic(auto, using(base_laws::proofs::Tests::tests), unfolding(crate::specs::Range::report_fits, wire_message::specs::Message::report))]
 fn report_fits(s: &[u8]) -> bool
     ensures { result ≡ report_fits (m.report (items s.now)) }
 {
-    if date_in(s, 1) {
-        return entries_fit(s, 3);
-    }
-    false
+    date_in(s, 1) && entries_fit(s, 3)
 }
 
+#[tactic(auto, using(base_laws::proofs::Tests::tests), unfolding(crate::specs::Range::exit_fits, crate::specs::Limits::sized, wire_message::specs::Message::exit))]
 fn exit_fits(s: &[u8]) -> bool
     ensures { result ≡ exit_fits (m.exit (items s.now)) }
 {
-    if moment_in(s, 1) {
-        if number_fits(s, 2, EXIT_VALUE_LIMIT) {
-            return length_in(s, 4) <= SIGNAL_LIMIT;
-        }
-        return false;
-    }
-    false
+    moment_in(s, 1) && number_fits(s, 2, EXIT_VALUE_LIMIT) && length_in(s, 4) <= SIGNAL_LIMIT
 }
 
+#[tactic(auto, using(base_laws::proofs::Tests::tests), unfolding(crate::specs::Range::restart_fits, crate::specs::Limits::sized, wire_message::specs::Message::restart))]
 fn restart_fits(s: &[u8]) -> bool
     ensures { result ≡ restart_fits (m.restart (items s.now)) }
 {
     let n = length_in(s, 1);
-    if 1 <= n {
-        if n <= LOG_ID_LIMIT {
-            return moment_in(s, 2);
-        }
-        return false;
-    }
-    false
+    1 <= n && n <= LOG_ID_LIMIT && moment_in(s, 2)
 }
 
+#[tactic(auto, using(base_laws::proofs::Tests::tests), unfolding(crate::specs::Range::window_fits, wire_message::specs::Message::window_size))]
 fn window_fits(s: &[u8]) -> bool
     ensures { result ≡ window_fits (m.window_size (items s.now)) }
 {
-    if moment_in(s, 1) {
-        if number_fits(s, 2, WINDOW_LIMIT) {
-            return number_fits(s, 3, WINDOW_LIMIT);
-        }
-        return false;
-    }
-    false
+    moment_in(s, 1) && number_fits(s, 2, WINDOW_LIMIT) && number_fits(s, 3, WINDOW_LIMIT)
 }
 
+#[tactic(auto, using(base_laws::proofs::Tests::tests), unfolding(crate::specs::Range::suspend_fits, crate::specs::Limits::sized, wire_message::specs::Message::timed))]
 fn suspend_fits(s: &[u8]) -> bool
     ensures { result ≡ suspend_fits (m.timed (items s.now)) }
 {
-    if moment_in(s, 1) {
-        let n = length_in(s, 2);
-        if 1 <= n {
-            return n <= SIGNAL_LIMIT;
-        }
+    if !moment_in(s, 1) {
         return false;
     }
-    false
+    let n = length_in(s, 2);
+    1 <= n && n <= SIGNAL_LIMIT
 }
 
-// The values of an embedded message, by its number in the schema.
+// The values of an embedded message, by its number in the schema: a number and no enum, since `in_range` takes any.
+#[tactic(auto, using(base_laws::proofs::Tests::tests), unfolding(crate::specs::Range::body_fits, crate::specs::Range::io_fits, wire_message::specs::Message::timed))]
 pub fn body_fits(message: u8, s: &[u8]) -> bool
     ensures { result ≡ body_fits message (items s.now) }
 {
-    if message == ACCEPT_MESSAGE {
-        return accept_fits(s);
+    match message {
+        ACCEPT_MESSAGE => accept_fits(s),
+        REJECT_MESSAGE => report_fits(s),
+        EXIT_MESSAGE => exit_fits(s),
+        RESTART_MESSAGE => restart_fits(s),
+        ALERT_MESSAGE => report_fits(s),
+        IO_BUFFER => moment_in(s, 1),
+        CHANGE_WINDOW_SIZE => window_fits(s),
+        COMMAND_SUSPEND => suspend_fits(s),
+        INFO_MESSAGE => entry_fits(s),
+        _ => true,
     }
-    if message == REJECT_MESSAGE {
-        return report_fits(s);
-    }
-    if message == EXIT_MESSAGE {
-        return exit_fits(s);
-    }
-    if message == RESTART_MESSAGE {
-        return restart_fits(s);
-    }
-    if message == ALERT_MESSAGE {
-        return report_fits(s);
-    }
-    if message == IO_BUFFER {
-        return moment_in(s, 1);
-    }
-    if message == CHANGE_WINDOW_SIZE {
-        return window_fits(s);
-    }
-    if message == COMMAND_SUSPEND {
-        return suspend_fits(s);
-    }
-    if message == INFO_MESSAGE {
-        return entry_fits(s);
-    }
-    true
 }
 
 // The member of a ClientMessage.
@@ -127,12 +91,9 @@ fn client_fits(s: &[u8]) -> bool
     ensures { result ≡ client_fits (last_item 1 13 (items s.now)) }
 {
     match last_in(s, 1, 13) {
-        Last::Nothing => true,
-        Last::Number {
-            number: _,
-            value: _,
-        } => true,
-        Last::Part { number, start, end } => {
+        None => true,
+        Some(Last::Number { .. }) => true,
+        Some(Last::Part { number, start, end }) => {
             let kind = kind_of(CLIENT_MESSAGE, number);
             if 16 <= kind {
                 return body_fits(kind - 16, &s[start..end]);
@@ -147,12 +108,9 @@ fn server_fits(s: &[u8]) -> bool
     ensures { result ≡ server_fits (last_item 1 5 (items s.now)) }
 {
     match last_in(s, 1, 5) {
-        Last::Nothing => true,
-        Last::Number {
-            number: _,
-            value: _,
-        } => true,
-        Last::Part { number, start, end } => {
+        None => true,
+        Some(Last::Number { .. }) => true,
+        Some(Last::Part { number, start, end }) => {
             if number == 2 {
                 return moment_fits(time_spec_in(&s[start..end]));
             }
@@ -162,14 +120,13 @@ fn server_fits(s: &[u8]) -> bool
 }
 
 // Are the values of a message that count in range.
+#[tactic(auto, using(base_laws::proofs::Tests::tests), unfolding(crate::specs::Range::in_range))]
 pub fn in_range(message: u8, s: &[u8]) -> bool
     ensures { result ≡ in_range message (items s.now) }
 {
-    if message == CLIENT_MESSAGE {
-        return client_fits(s);
+    match message {
+        CLIENT_MESSAGE => client_fits(s),
+        SERVER_MESSAGE => server_fits(s),
+        _ => body_fits(message, s),
     }
-    if message == SERVER_MESSAGE {
-        return server_fits(s);
-    }
-    body_fits(message, s)
 }

@@ -6,9 +6,9 @@ ghost use Rattle.wire_message.specs.Message as m;
 ghost use Rattle.wire_message.specs.Places.{time_value};
 ghost use Rattle.wire_range.specs.Limits.{up_to, date_fits, moment_fits, is_set, entry_fits, entries_fit};
 
-use wire_fields::{Found, next_part, number_in, part_in};
-use wire_message::{Value, value_in};
-use wire_types::Time;
+use wire_fields::{next_part, number_in, part_in};
+use wire_message::value_in;
+use wire_types::{Span, Time};
 use wire_walk_io::time::time_in;
 
 // The greatest values of document 01's table.
@@ -35,10 +35,7 @@ fn date_fits(t: Time) -> bool
 pub fn moment_fits(t: Time) -> bool
     ensures { result ≡ moment_fits (time_value t) }
 {
-    if t.seconds <= SECONDS_LIMIT {
-        return date_fits(t);
-    }
-    false
+    t.seconds <= SECONDS_LIMIT && date_fits(t)
 }
 
 pub fn date_in(s: &[u8], number: u64) -> bool
@@ -68,25 +65,18 @@ pub fn length_in(s: &[u8], number: u64) -> usize
     p.end - p.start
 }
 
+#[tactic(auto, using(crate::proofs::Values::is_set_by))]
 fn value_is_set(s: &[u8]) -> bool
     ensures { result ≡ is_set (m.value_of (last_item 2 5 (items s.now))) }
 {
-    match value_in(s) {
-        Value::Absent => false,
-        Value::Number(_) => true,
-        Value::String(_) => true,
-        Value::Strings(_) => true,
-        Value::Numbers(_) => true,
-    }
+    value_in(s).is_some()
 }
 
+#[tactic(auto, using(base_laws::proofs::Tests::tests), unfolding(crate::specs::Limits::entry_fits, wire_message::specs::Message::entry))]
 pub fn entry_fits(s: &[u8]) -> bool
     ensures { result ≡ entry_fits (m.entry (items s.now)) }
 {
-    if 1 <= length_in(s, 1) {
-        return value_is_set(s);
-    }
-    false
+    1 <= length_in(s, 1) && value_is_set(s)
 }
 
 // The entries of a message: its fields of this number.
@@ -94,18 +84,11 @@ pub fn entries_fit(s: &[u8], number: u64) -> bool
     ensures { result ≡ entries_fit (m.entries number (items s.now)) }
 {
     let mut at: usize = 0;
-    loop {
-        match next_part(s, at, number) {
-            Found::Part { start, end } => {
-                if entry_fits(&s[start..end]) {
-                    at = end;
-                } else {
-                    return false;
-                }
-            }
-            Found::Nothing => {
-                return true;
-            }
+    while let Some(Span { start, end }) = next_part(s, at, number) {
+        if !entry_fits(&s[start..end]) {
+            return false;
         }
+        at = end;
     }
+    true
 }

@@ -3,102 +3,81 @@
 
 ghost use Rattle.std.specs.Prelude.{◌≡◌, ◌<◌};
 ghost use Rattle.wire_varint.specs.Varint.{varint_at};
-ghost use Rattle.wire_value.specs.Field.{fixed_at, number_payload, part_of, payload_at};
+ghost use Rattle.wire_value.specs.Field.{fixed_at, number_read, part_of, payload_at};
 
-use base_laws::wide;
+use wire_types::{Refusal, Refused, Span};
 use wire_varint::{Varint, varint_at};
 
-// A field's value, or the refusal with its place.
-#[derive(Drop)]
+// A field's value: a number, a fixed field up to a place, or where its bytes are.
+#[derive(Clone, Copy)]
 pub enum Payload {
-    Number { value: u64, next: usize },
+    Number(Varint),
     Fixed { next: usize },
-    Part { start: usize, end: usize },
-    Refused { refusal: u8, place: usize },
+    Part(Span),
 }
 
-fn fixed_at(s: &[u8], at: usize, from: usize, width: usize) -> Payload
+// Where a fixed field ends, of the field whose tag is at `at`.
+fn fixed_at(s: &[u8], at: usize, from: usize, width: usize) -> Result<usize, Refused>
     requires { 0 < width }
     ensures { result ≡ fixed_at s.now at from width }
 {
-    if s.len() <= from {
-        return Payload::Refused {
-            refusal: 3,
-            place: at,
-        };
-    }
-    if width <= s.len() - from {
-        Payload::Fixed { next: from + width }
+    if from < s.len() && width <= s.len() - from {
+        Ok(from + width)
     } else {
-        Payload::Refused {
-            refusal: 3,
+        Err(Refused {
+            refusal: Refusal::Length,
             place: at,
-        }
+        })
     }
 }
 
 // A number alone, as packed lists have it.
-pub fn number_at(s: &[u8], at: usize) -> Payload
-    ensures { result ≡ number_payload at (varint_at s.now at) }
+pub fn number_at(s: &[u8], at: usize) -> Result<Varint, Refused>
+    ensures { result ≡ number_read at (varint_at s.now at) }
 {
     match varint_at(s, at) {
-        Varint::Value { value, next } => Payload::Number { value, next },
-        Varint::PastEnd => Payload::Refused {
-            refusal: 2,
+        Ok(number) => Ok(number),
+        Err(_) => Err(Refused {
+            refusal: Refusal::Varint,
             place: at,
-        },
-        Varint::TooLong => Payload::Refused {
-            refusal: 2,
-            place: at,
-        },
+        }),
     }
 }
 
 // A length and its bytes, where the length takes two bytes or more or is refused: apart from `part_at`, so that its fast path can be
 // inlined.
-fn part_slow(s: &[u8], at: usize) -> Payload
+fn part_slow(s: &[u8], at: usize) -> Result<Span, Refused>
     ensures { result ≡ part_of s.now at (varint_at s.now at) }
 {
-    match varint_at(s, at) {
-        Varint::Value { value, next } => {
-            let left = (s.len() - next) as u64;
-            if value <= left {
-                Payload::Part {
-                    start: next,
-                    end: next + value as usize,
-                }
-            } else {
-                Payload::Refused {
-                    refusal: 3,
-                    place: at,
-                }
-            }
-        }
-        Varint::PastEnd => Payload::Refused {
-            refusal: 2,
+    let Varint { value, next } = number_at(s, at)?;
+    let left = (s.len() - next) as u64;
+    if value <= left {
+        Ok(Span {
+            start: next,
+            end: next + value as usize,
+        })
+    } else {
+        Err(Refused {
+            refusal: Refusal::Length,
             place: at,
-        },
-        Varint::TooLong => Payload::Refused {
-            refusal: 2,
-            place: at,
-        },
+        })
     }
 }
 
 // A length and its bytes. Nearly all lengths are one byte, which has a fast path.
-pub fn part_at(s: &[u8], at: usize) -> Payload
+pub fn part_at(s: &[u8], at: usize) -> Result<Span, Refused>
     ensures { result ≡ part_of s.now at (varint_at s.now at) }
 {
     if at < s.len() {
-        let length = wide(s[at]);
+        let length = u64::from(s[at]);
         if length < 128 {
             let start = at + 1;
             let left = (s.len() - start) as u64;
             if length <= left {
-                return Payload::Part {
+                return Ok(Span {
                     start,
                     end: start + length as usize,
-                };
+                });
             }
         }
     }
@@ -107,40 +86,34 @@ pub fn part_at(s: &[u8], at: usize) -> Payload
 
 // The value at `from` of the field whose tag is at `at`. Wire types 0 and 2 share the reading of their varint, so that this
 // is short enough to be inlined.
-pub fn payload_at(s: &[u8], at: usize, from: usize, wire: u8) -> Payload
+pub fn payload_at(s: &[u8], at: usize, from: usize, wire: u8) -> Result<Payload, Refused>
     ensures { result ≡ payload_at s.now at from wire }
 {
     if wire == 1 {
-        return fixed_at(s, at, from, 8);
+        return Ok(Payload::Fixed {
+            next: fixed_at(s, at, from, 8)?,
+        });
     }
     if wire == 5 {
-        return fixed_at(s, at, from, 4);
+        return Ok(Payload::Fixed {
+            next: fixed_at(s, at, from, 4)?,
+        });
     }
-    match varint_at(s, from) {
-        Varint::Value { value, next } => {
-            if wire == 0 {
-                return Payload::Number { value, next };
-            }
-            let left = (s.len() - next) as u64;
-            if value <= left {
-                Payload::Part {
-                    start: next,
-                    end: next + value as usize,
-                }
-            } else {
-                Payload::Refused {
-                    refusal: 3,
-                    place: from,
-                }
-            }
-        }
-        Varint::PastEnd => Payload::Refused {
-            refusal: 2,
+    let number = number_at(s, from)?;
+    if wire == 0 {
+        return Ok(Payload::Number(number));
+    }
+    let Varint { value, next } = number;
+    let left = (s.len() - next) as u64;
+    if value <= left {
+        Ok(Payload::Part(Span {
+            start: next,
+            end: next + value as usize,
+        }))
+    } else {
+        Err(Refused {
+            refusal: Refusal::Length,
             place: from,
-        },
-        Varint::TooLong => Payload::Refused {
-            refusal: 2,
-            place: from,
-        },
+        })
     }
 }

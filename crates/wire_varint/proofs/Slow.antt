@@ -4,28 +4,27 @@ use native.Mathlib.Omega.{arith}
 use native.Mathlib.Nat.{mul_assoc, add-mul, mul-le-mul_left, mul-le-mul_right}
 use mathlib.Core.Path.{◌≡◌, refl}
 use lib.Dec.{lit≤}
-use Rattle.wire_varint.specs.Varint.{above}
+use Rattle.std.specs.Prelude.{Result, Ok, Err}
+use Rattle.wire_varint.specs.Varint.{above, read}
 use Rattle.wire_varint.specs.declared.Varint.{Varint}
-use Rattle.wire_varint.specs.declared.Varint.TheVariants.{Value, PastEnd, TooLong}
+use Rattle.wire_varint.specs.declared.VarintError.{VarintError}
 use Rattle.wire_varint.proofs.Varints.{lim}
 
 -- the rest of a varint, scaled, above the value so far
-abbrev pub under : ℕ → ℕ → Varint → Varint
-under v k (Value x n) = Value (v + x * k) n
-under v k PastEnd = PastEnd
-under v k TooLong = TooLong
+abbrev pub under : ℕ → ℕ → Result Varint VarintError → Result Varint VarintError
+under v k (Ok r) = read (v + r.value * k) r.next
+under v k (Err e) = Err e
 
-pub under_start : (r : Varint) → under 0 1 r ≡ r
-under_start (Value x n) = let e : 0 + x * 1 ≡ x = omega arith in rw e
-under_start PastEnd = refl
-under_start TooLong = refl
+pub under_start : (r : Result Varint VarintError) → under 0 1 r ≡ r
+under_start (Ok r) = let e : 0 + r.value * 1 ≡ r.value = omega arith in rw e
+under_start (Err e) = refl
 
-pub under_above : (v k low : ℕ) (r : Varint) → under v k (above low r) ≡ under (v + low * k) (k * 128) r
-under_above v k low (Value x n) =
+pub under_above : (v k low : ℕ) (r : Result Varint VarintError) → under v k (above low r) ≡ under (v + low * k) (k * 128) r
+under_above v k low (Ok r) =
+    let x : ℕ = r.value in
     let e : v + (low + 128 * x) * k ≡ v + low * k + x * (k * 128) = omega (arith, add-mul low (128 * x) k, mul_assoc 128 x k, mul_assoc x k 128) in
     rw e
-under_above v k low PastEnd = refl
-under_above v k low TooLong = refl
+under_above v k low (Err e) = refl
 
 lim_two : (k : ℕ) → 2 ≤ lim k
 unfolding lim

@@ -9,9 +9,11 @@ use mathlib.Core.Bool.{Bool, true, false}
 use lib.ListN.{length, get_or}
 use lib.Dec.{ltb, lit≤}
 use borrow.Author.Tests.{lt-ltb, le-ltb, le-leb, lt-leb, ltb-true, ltb-false}
-use Rattle.wire_varint.specs.Varint.{varint_from, varint_at, above}
+use Rattle.std.specs.Prelude.{Result, Ok, Err}
+use Rattle.wire_varint.specs.Varint.{varint_from, varint_at, above, read}
 use Rattle.wire_varint.specs.declared.Varint.{Varint}
-use Rattle.wire_varint.specs.declared.Varint.TheVariants.{Value, PastEnd, TooLong}
+use Rattle.wire_varint.specs.declared.VarintError.{VarintError}
+use Rattle.wire_varint.specs.declared.VarintError.TheVariants.{PastEnd, TooLong}
 
 -- which of two orders holds
 pub lt_or_le : (a b : ℕ) → (a < b) ⊎ (b ≤ a)
@@ -22,20 +24,20 @@ lt_or_le a b = go (ltb a b) refl
     go false e = inr (ltb-false a b e)
 
 module _ (s : List ℕ) (at : ℕ) where
-  pub past : (k : ℕ) → length s ≤ at → PastEnd ≡ varint_from k s at
+  pub past : (k : ℕ) → length s ≤ at → Err PastEnd ≡ varint_from k s at
   unfolding varint_from
   past zero h = simp (varint_from, le-ltb _ _ h)
   past (suc k) h = simp (varint_from, le-ltb _ _ h)
 
-  pub last_fits : (k : ℕ) → k ≡ 0 → at < length s → get_or s at 0 ≤ 1 → Value (get_or s at 0) (at + 1) ≡ varint_from k s at
+  pub last_fits : (k : ℕ) → k ≡ 0 → at < length s → get_or s at 0 ≤ 1 → read (get_or s at 0) (at + 1) ≡ varint_from k s at
   unfolding varint_from
   last_fits k e h b = rw e (simp (varint_from, lt-ltb _ _ h, le-leb _ _ b))
 
-  pub last_long : (k : ℕ) → k ≡ 0 → at < length s → 1 < get_or s at 0 → TooLong ≡ varint_from k s at
+  pub last_long : (k : ℕ) → k ≡ 0 → at < length s → 1 < get_or s at 0 → Err TooLong ≡ varint_from k s at
   unfolding varint_from
   last_long k e h b = rw e (simp (varint_from, lt-ltb _ _ h, lt-leb _ _ b))
 
-  pub ends : (k : ℕ) → (k ≡ 0 → ⊥) → at < length s → get_or s at 0 < 128 → Value (get_or s at 0) (at + 1) ≡ varint_from k s at
+  pub ends : (k : ℕ) → (k ≡ 0 → ⊥) → at < length s → get_or s at 0 < 128 → read (get_or s at 0) (at + 1) ≡ varint_from k s at
   unfolding varint_from
   ends zero e h b = absurd (e refl)
   ends (suc k) e h b = simp (varint_from, lt-ltb _ _ h, lt-ltb _ _ b)
@@ -46,7 +48,7 @@ module _ (s : List ℕ) (at : ℕ) where
   goes_on k j e h b = rw e (simp (varint_from, lt-ltb _ _ h, le-ltb _ _ b))
 
 -- a byte below 128 is a varint of one byte, whatever its value is known by
-pub one_byte : (s : List ℕ) (at t : ℕ) → at < length s → get_or s at 0 ≡ t → t < 128 → varint_at s at ≡ Value t (at + 1)
+pub one_byte : (s : List ℕ) (at t : ℕ) → at < length s → get_or s at 0 ≡ t → t < 128 → varint_at s at ≡ read t (at + 1)
 one_byte s at t i e l = sym (ends s at 9 (omega arith) i (omega arith)) ∙ rw e
 
 -- the values of a varint of at most 1 + k bytes are below this
@@ -65,17 +67,15 @@ up zero k e = let f : k ≡ 8 = omega arith in rw f (lit≤ tt)
 up (suc d) k e = le_trans (omega (arith, lim_pos k)) (up d (suc k) (omega arith))
 
 -- a value was read within the list, past `at`, and is below the limit
-abbrev pub Within : List ℕ → ℕ → ℕ → Varint → Type 0
-Within s at k (Value v n) = (at < n) × (n ≤ length s) × (v < lim k)
-Within s at k PastEnd = Unit
-Within s at k TooLong = Unit
+abbrev pub Within : List ℕ → ℕ → ℕ → Result Varint VarintError → Type 0
+Within s at k (Ok r) = (at < r.next) × (r.next ≤ length s) × (r.value < lim k)
+Within s at k (Err e) = Unit
 
 module _ (s : List ℕ) (bytes : (i : ℕ) → get_or s i 0 < 256) where
-  within_above : (at k b : ℕ) → b < 128 → (r : Varint) → Within s (at + 1) k r → Within s at (suc k) (above b r)
+  within_above : (at k b : ℕ) → b < 128 → (r : Result Varint VarintError) → Within s (at + 1) k r → Within s at (suc k) (above b r)
   unfolding lim
-  within_above at k b h (Value v n) w = (omega arith, w.1, omega arith)
-  within_above at k b h PastEnd w = tt
-  within_above at k b h TooLong w = tt
+  within_above at k b h (Ok r) w = (omega arith, w.1, omega arith)
+  within_above at k b h (Err e) w = tt
 
   pub within : (k at : ℕ) → Within s at k (varint_from k s at)
   unfolding lim

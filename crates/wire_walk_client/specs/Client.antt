@@ -1,34 +1,36 @@
 -- Where a client message's member stands in its bytes, as the walk returns it; of an I/O buffer its values.
-use Rattle.std.specs.Prelude.{ℕ, ◌+◌, List, Bool, true, false, eqb}
+use Rattle.std.specs.Prelude.{ℕ, ◌+◌, List, Bool, true, false, Option, Some, None, Result, Ok, Err, eqb}
 use Rattle.base_laws.specs.Base.{part}
 use Rattle.wire_schema.specs.Schema.{kind_of, ClientMessage, IoBuffer, message}
 use Rattle.wire_check_field.specs.Check.{check_of}
 use Rattle.wire_fields.specs.Fields.{last_in}
 use Rattle.wire_fields.specs.declared.Last.{Last}
 use Rattle.wire_fields.specs.declared.Last.TheVariants as last
-use Rattle.wire_check_field.specs.declared.Checked.{Checked}
-use Rattle.wire_check_field.specs.declared.Checked.TheVariants as checked
 use Rattle.wire_walk_io.specs.Places.{io_buffer_of}
-use Rattle.wire_walk_io.specs.declared.io.IoRead.{IoRead}
-use Rattle.wire_walk_io.specs.declared.io.IoRead.TheVariants as ioread
-use Rattle.wire_types.specs.declared.ClientRead.{ClientRead}
-use Rattle.wire_types.specs.declared.ClientRead.TheVariants as client
+use Rattle.wire_types.specs.declared.Refused.{Refused}
+use Rattle.wire_types.specs.declared.Timed.{Timed}
+use Rattle.wire_types.specs.declared.ClientMember.{ClientMember}
+use Rattle.wire_types.specs.declared.ClientMember.TheVariants as client
 
--- a member from a to e: an I/O buffer by its values, its data at the whole's places. A refused one does not come here: the whole was
--- checked.
-unfoldable pub member_read : ℕ → ℕ → ℕ → Bool → IoRead → ClientRead
-member_read f a e true (ioread.Fine x y b c) = client.Io f x y (a + b) (a + c)
-member_read f a e true (ioread.Refused r p) = client.Member f a e
-member_read f a e false i = client.Member f a e
+-- an I/O buffer that begins at a, its data at the whole's places
+abbrev pub io_within : ℕ → Timed → Timed
+io_within a t = record { delay = t.delay; contents = record { start = a + t.contents.start; end = a + t.contents.end } }
 
-unfoldable pub client_from : List ℕ → Last → ClientRead
-client_from s last.Nothing = client.NoMember
-client_from s (last.Number f v) = client.NoMember
-client_from s (last.Part f a e) = member_read f a e (eqb (kind_of ClientMessage f) (message IoBuffer)) (io_buffer_of (part s a e))
+-- a member from a to e: an I/O buffer by its values. A refused one does not come here: the whole was checked.
+unfoldable pub member_read : ℕ → ℕ → ℕ → Bool → Result Timed Refused → ClientMember
+member_read f a e true (Ok t) = client.Io f (io_within a t)
+member_read f a e true (Err r) = client.Other f (record { start = a; end = e })
+member_read f a e false i = client.Other f (record { start = a; end = e })
 
-unfoldable pub client_read : Checked → ClientRead → ClientRead
-client_read checked.Fine c = c
-client_read (checked.Refused r p) c = client.Refused r p
+unfoldable pub client_from : List ℕ → Option Last → Option ClientMember
+client_from s None = None
+client_from s (Some (last.Number f v)) = None
+client_from s (Some (last.Part f a e)) =
+    Some (member_read f a e (eqb (kind_of ClientMessage f) (message IoBuffer)) (io_buffer_of (part s a e)))
 
-abbrev pub client_of : List ℕ → ClientRead
+unfoldable pub client_read : Result Unit Refused → Option ClientMember → Result (Option ClientMember) Refused
+client_read (Ok u) c = Ok c
+client_read (Err r) c = Err r
+
+abbrev pub client_of : List ℕ → Result (Option ClientMember) Refused
 client_of s = client_read (check_of ClientMessage s) (client_from s (last_in 1 13 s))

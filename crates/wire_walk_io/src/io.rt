@@ -2,126 +2,45 @@
 ghost use Rattle.std.specs.Prelude.{◌≡◌};
 ghost use Rattle.wire_walk_io.specs.Places.{io_buffer_of};
 
-use crate::time::{TimeRead, time_spec};
+use crate::time::time_spec;
 use wire_check_field::{Step, rest_at};
 use wire_schema::IO_BUFFER;
-use wire_value::{Payload, part_at};
-use wire_varint::{Varint, varint_at};
+use wire_types::{Refused, Span, Time, Timed};
+use wire_value::{number_at, part_at};
+use wire_varint::Varint;
 
-// An I/O buffer: its delay and where its data is, or its refusal with the place.
-#[derive(Drop)]
-pub enum IoRead {
-    Fine {
-        seconds: u64,
-        nanos: u64,
-        start: usize,
-        end: usize,
-    },
-    Refused {
-        refusal: u8,
-        place: usize,
-    },
-}
-
-// The check of an I/O buffer, its delay and its data in one walk.
-pub fn io_buffer(s: &[u8]) -> IoRead
+// The check of an I/O buffer, its delay and where its data is in one walk; or its refusal with the place. The walk is like that of
+// `time_spec`, and apart from it: all that they share is the reading of a tag and of a field of another number, and a walk that takes the
+// rest as closures is no plainer.
+pub fn io_buffer(s: &[u8]) -> Result<Timed, Refused>
     ensures { result ≡ io_buffer_of s.now }
 {
     let mut at: usize = 0;
-    let mut seconds: u64 = 0;
-    let mut nanos: u64 = 0;
-    let mut from: usize = 0;
-    let mut to: usize = 0;
+    let mut delay = Time {
+        seconds: 0,
+        nanos: 0,
+    };
+    let mut contents = Span { start: 0, end: 0 };
     while at < s.len() {
-        match varint_at(s, at) {
-            Varint::Value { value: tag, next } => {
-                if tag == 10 {
-                    match part_at(s, next) {
-                        Payload::Part { start, end } => match time_spec(&s[start..end]) {
-                            TimeRead::Fine {
-                                seconds: x,
-                                nanos: y,
-                            } => {
-                                seconds = x;
-                                nanos = y;
-                                at = end;
-                            }
-                            TimeRead::Refused { refusal, place } => {
-                                return IoRead::Refused {
-                                    refusal,
-                                    place: start + place,
-                                };
-                            }
-                        },
-                        Payload::Refused { refusal, place } => {
-                            return IoRead::Refused { refusal, place };
-                        }
-                        Payload::Number {
-                            value: _,
-                            next: after,
-                        } => {
-                            at = after;
-                        }
-                        Payload::Fixed { next: after } => {
-                            at = after;
-                        }
-                    }
-                } else if tag == 18 {
-                    match part_at(s, next) {
-                        Payload::Part { start, end } => {
-                            from = start;
-                            to = end;
-                            at = end;
-                        }
-                        Payload::Refused { refusal, place } => {
-                            return IoRead::Refused { refusal, place };
-                        }
-                        Payload::Number {
-                            value: _,
-                            next: after,
-                        } => {
-                            at = after;
-                        }
-                        Payload::Fixed { next: after } => {
-                            at = after;
-                        }
-                    }
-                } else {
-                    match rest_at(IO_BUFFER, s, at, tag, next) {
-                        Step::Next { next: after } => {
-                            at = after;
-                        }
-                        Step::Inside {
-                            message: _,
-                            start: _,
-                            end,
-                        } => {
-                            at = end;
-                        }
-                        Step::Refused { refusal, place } => {
-                            return IoRead::Refused { refusal, place };
-                        }
-                    }
+        let Varint { value: tag, next } = number_at(s, at)?;
+        if tag == 10 {
+            let Span { start, end } = part_at(s, next)?;
+            match time_spec(&s[start..end]) {
+                Ok(time) => {
+                    delay = time;
+                    at = end;
                 }
+                Err(refused) => return Err(refused.within(start)),
             }
-            Varint::PastEnd => {
-                return IoRead::Refused {
-                    refusal: 2,
-                    place: at,
-                };
-            }
-            Varint::TooLong => {
-                return IoRead::Refused {
-                    refusal: 2,
-                    place: at,
-                };
+        } else if tag == 18 {
+            contents = part_at(s, next)?;
+            at = contents.end;
+        } else {
+            match rest_at(IO_BUFFER, s, at, tag, next)? {
+                Step::Next { next: after } => at = after,
+                Step::Inside { end, .. } => at = end,
             }
         }
     }
-    IoRead::Fine {
-        seconds,
-        nanos,
-        start: from,
-        end: to,
-    }
+    Ok(Timed { delay, contents })
 }

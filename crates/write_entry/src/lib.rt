@@ -8,15 +8,15 @@ ghost use Rattle.write_forms.specs.Outcome.{buffer};
 ghost use Rattle.write_message.specs.Fits.{entry_fits, entry_strings_fits};
 ghost use Rattle.write_message.specs.Wrote.{wrote};
 
-use write_message::fits::{both, member_in};
-use write_message::form::{listed, numbered};
-use write_message::outcome::Wrote;
+use write_message::fits::member_in;
+use write_message::form::Form;
+use write_message::outcome::WriteError;
 use write_message::write::{write_message, write_plain};
 
 fn entry_fits(member: u64, key: &[u8]) -> bool
     ensures { result ≡ entry_fits member key.now }
 {
-    both(member_in(2, 3, member), 1 <= key.len())
+    member_in(2, 3, member) && 1 <= key.len()
 }
 
 // An entry with a number.
@@ -26,29 +26,39 @@ pub fn write_entry_number(
     value: u64,
     framed: bool,
     out: &mut [u8],
-) -> Wrote
+) -> Result<usize, WriteError>
     ensures answer { result ≡ wrote 0 (entry_fits member key.now) framed (wrapped member (entry_pieces key.now (numval value))) (length out.old) }
     ensures buffer { out.new ≡ buffer 0 (entry_fits member key.now) framed (wrapped member (entry_pieces key.now (numval value))) out.old }
 {
     let fits = entry_fits(member, key);
-    let p = numbered(0, value, true);
-    write_plain(0, fits, member, p, key, &[], &[], &[], &[], framed, out)
+    let p = Form {
+        text_one: key,
+        two: value,
+        always: true,
+        ..Form::EMPTY
+    };
+    write_plain(0, fits, member, &p, framed, out)
 }
 
 // An entry with a string.
-pub fn write_entry_string(
+pub fn write_entry_string<'a>(
     member: u64,
-    key: &[u8],
-    value: &[u8],
+    key: &'a [u8],
+    value: &'a [u8],
     framed: bool,
     out: &mut [u8],
-) -> Wrote
+) -> Result<usize, WriteError>
     ensures answer { result ≡ wrote 0 (entry_fits member key.now) framed (wrapped member (entry_pieces key.now (strval value.now))) (length out.old) }
     ensures buffer { out.new ≡ buffer 0 (entry_fits member key.now) framed (wrapped member (entry_pieces key.now (strval value.now))) out.old }
 {
     let fits = entry_fits(member, key);
-    let p = listed(0, 3, 0);
-    write_plain(0, fits, member, p, key, &[], value, &[], &[], framed, out)
+    let p = Form {
+        text_one: key,
+        inner: 3,
+        lent: value,
+        ..Form::EMPTY
+    };
+    write_plain(0, fits, member, &p, framed, out)
 }
 
 // An entry with a list of strings.
@@ -59,57 +69,37 @@ pub fn write_entry_strings(
     ends: &[usize],
     framed: bool,
     out: &mut [u8],
-) -> Wrote
+) -> Result<usize, WriteError>
     ensures answer { result ≡ wrote 0 (entry_strings_fits member key.now joined.now ends.now) framed (wrapped member (entry_pieces key.now (strlistval (cut_at joined.now 0 ends.now)))) (length out.old) }
     ensures buffer { out.new ≡ buffer 0 (entry_strings_fits member key.now joined.now ends.now) framed (wrapped member (entry_pieces key.now (strlistval (cut_at joined.now 0 ends.now)))) out.old }
 {
     let fits = entry_fits(member, key);
-    let p = listed(1, 4, 0);
-    write_message(
-        0,
-        fits,
-        member,
-        p,
-        key,
-        &[],
-        joined,
-        ends,
-        &[],
-        &[],
-        &[],
-        &[],
-        framed,
-        out,
-    )
+    let p = Form {
+        text_one: key,
+        list: 1,
+        inner: 4,
+        ..Form::EMPTY
+    };
+    write_message(0, fits, member, &p, joined, ends, framed, out)
 }
 
 // An entry with a list of numbers.
-pub fn write_entry_numbers(
+pub fn write_entry_numbers<'a>(
     member: u64,
-    key: &[u8],
-    numbers: &[u64],
+    key: &'a [u8],
+    numbers: &'a [u64],
     framed: bool,
     out: &mut [u8],
-) -> Wrote
+) -> Result<usize, WriteError>
     ensures answer { result ≡ wrote 0 (entry_fits member key.now) framed (wrapped member (entry_pieces key.now (numlistval numbers.now))) (length out.old) }
     ensures buffer { out.new ≡ buffer 0 (entry_fits member key.now) framed (wrapped member (entry_pieces key.now (numlistval numbers.now))) out.old }
 {
     let fits = entry_fits(member, key);
-    let p = listed(0, 5, 0);
-    write_message(
-        0,
-        fits,
-        member,
-        p,
-        key,
-        &[],
-        &[],
-        &[],
+    let p = Form {
+        text_one: key,
+        inner: 5,
         numbers,
-        &[],
-        &[],
-        &[],
-        framed,
-        out,
-    )
+        ..Form::EMPTY
+    };
+    write_plain(0, fits, member, &p, framed, out)
 }

@@ -11,7 +11,7 @@ use Rattle.wire_schema.specs.Schema.{schema, kind_of, takes}
 use Rattle.wire_fields.specs.Fields.{among}
 use Rattle.wire_fields.specs.Items as i
 use Rattle.wire_fields.specs.Items.{Item, none, items, last_from, number_of, bytes_of, every_bytes}
-use Rattle.wire_check_field.specs.declared.Checked.TheVariants as checked
+use Rattle.std.specs.Prelude.{Ok}
 use Rattle.wire_elements.specs.Elements.{numbers_of}
 use Rattle.wire_message.specs.Signed.{int64, int32, bool}
 use Rattle.wire_message.specs.Message as m
@@ -94,7 +94,7 @@ module _ (ps : List Piece) (ok : AllWritable ps) (h : Short (encode_all ps)) whe
 
 -- ---- the members of a ClientMessage
 
-pub accept_back : (t : Stamp) (r : Bytes) (e : Bool) → Stamped t → run_at 2 r 0 ≡ checked.Fine → Short (encode_all (d.accept_pieces t r e))
+pub accept_back : (t : Stamp) (r : Bytes) (e : Bool) → Stamped t → run_at 2 r 0 ≡ Ok tt → Short (encode_all (d.accept_pieces t r e))
     → ReadsAs 1 (encode_all (d.accept_pieces t r e)) m.accept (record { submit_time = stamp_value t; info_msgs = m.entries 2 (items r); expect_iobufs = e })
 unfolding kind_of schema takes m.accept among bytes_of
 accept_back t r e s q h =
@@ -111,7 +111,7 @@ accept_back t r e s q h =
 
 -- a RejectMessage is message 2, an AlertMessage 5
 report_as : (k : ℕ) → (k ≡ 16 → ⊥) → (t : Stamp) (x r : Bytes) → AllSuit k (d.report_pieces t x r)
-    → Stamped t → run_at 3 r 0 ≡ checked.Fine → Short (encode_all (d.report_pieces t x r))
+    → Stamped t → run_at 3 r 0 ≡ Ok tt → Short (encode_all (d.report_pieces t x r))
     → ReadsAs k (encode_all (d.report_pieces t x r)) m.report (record { time = stamp_value t; reason = x; info_msgs = m.entries 3 (items r) })
 unfolding m.report among bytes_of
 report_as k real t x r suits s q h =
@@ -123,7 +123,7 @@ report_as k real t x r suits s q h =
     let e = entries_field ps ok h 3 r (append-nil (every_bytes 3 (items r))) in
     record { fine = pieces_pass k real ps ok suits h; means = λ j. record { time = a j; reason = b j; info_msgs = e j } }
 
-module _ (t : Stamp) (x r : Bytes) (s : Stamped t) (q : run_at 3 r 0 ≡ checked.Fine) (h : Short (encode_all (d.report_pieces t x r))) where
+module _ (t : Stamp) (x r : Bytes) (s : Stamped t) (q : run_at 3 r 0 ≡ Ok tt) (h : Short (encode_all (d.report_pieces t x r))) where
   pub reject_back : ReadsAs 2 (encode_all (d.report_pieces t x r)) m.report (record { time = stamp_value t; reason = x; info_msgs = m.entries 3 (items r) })
   unfolding kind_of schema takes
   reject_back =

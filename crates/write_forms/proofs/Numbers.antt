@@ -10,15 +10,16 @@ use lib.Seq.{take-length}
 use lib.Dec.{eqb}
 use borrow.Author.Tests.{eqb-true}
 use Rattle.base_laws.specs.Base.{pick, part}
+use Rattle.wire_varint.specs.Varint as r
 use Rattle.wire_varint.specs.Varint.{varint_from, varint_at}
-use Rattle.wire_value.specs.Field.{number_payload}
-use Rattle.wire_check_field.specs.Check.{step_of, step_at}
+use Rattle.wire_value.specs.Field.{number_read, as_number}
+use Rattle.wire_check_field.specs.Check.{step_of, step_read, step_at}
 use Rattle.wire_check_field.specs.Check.{check_of}
 use Rattle.wire_fields.specs.Items as i
 use Rattle.wire_varint.specs.declared.Varint.{Varint}
-use Rattle.wire_varint.specs.declared.Varint.TheVariants.{Value}
+use Rattle.wire_varint.specs.declared.VarintError.{VarintError}
 use Rattle.wire_check_field.specs.declared.Step.TheVariants as step
-use Rattle.wire_check_field.specs.declared.Checked.TheVariants as checked
+use Rattle.std.specs.Prelude.{Result, Ok}
 use Rattle.wire_fields.proofs.Reach.{Read, read}
 use Rattle.wire_check_field.proofs.Checks.{at_end}
 use Rattle.wire_elements.specs.Elements.{on_varint, varints_from, varints_at, varints, numbers_of}
@@ -44,9 +45,9 @@ behind a b =
 first : (v : ℕ) (rest : List ℕ) → v < 2 ^ 64 → varints (varint v ++ rest) ≡ v ∷ varints rest
 unfolding on_varint
 first v rest h =
-    let e : varint_at (varint v ++ rest) 0 ≡ Value v (length (varint v)) =
+    let e : varint_at (varint v ++ rest) 0 ≡ r.read v (length (varint v)) =
     rw (zero-add (length (varint v))) at (varint_moves (in_bounds_first (varint v) rest) 9 0 v (length (varint v)) (varint_back v h)) in
-    varints_follow (varint v ++ rest) 0 ∙ ap (λ (r : Varint). on_varint (varints_at (varint v ++ rest)) r) e ∙ ap (λ (l : List ℕ). v ∷ l) (behind (varint v) rest)
+    varints_follow (varint v ++ rest) 0 ∙ ap (λ (x : Result Varint VarintError). on_varint (varints_at (varint v ++ rest)) x) e ∙ ap (λ (l : List ℕ). v ∷ l) (behind (varint v) rest)
 
 no_varints : varints [] ≡ []
 unfolding varints_at varints_from on_varint varint_from
@@ -57,13 +58,13 @@ unfolding packed
 packed_back [] h = no_varints
 packed_back (v ∷ vs) h = first v (packed vs) h.0 ∙ ap (λ (l : List ℕ). v ∷ l) (packed_back vs h.1)
 
-varint_passes : (v : ℕ) → v < 2 ^ 64 → check_of 16 (varint v) ≡ checked.Fine
-unfolding step_at step_of number_payload
+varint_passes : (v : ℕ) → v < 2 ^ 64 → check_of 16 (varint v) ≡ Ok tt
+unfolding step_at step_of step_read number_read as_number
 varint_passes v h =
-    let e : step_at 16 (varint v) 0 ≡ step.Next (length (varint v)) = rw (varint_back v h) in
+    let e : step_at 16 (varint v) 0 ≡ Ok (step.Next (length (varint v))) = rw (varint_back v h) in
     passes 16 (varint v) (more (positive v h) (omega arith) (over e) done)
 
-pub packed_passes : (vs : List ℕ) → AllFit vs → check_of 16 (packed vs) ≡ checked.Fine
+pub packed_passes : (vs : List ℕ) → AllFit vs → check_of 16 (packed vs) ≡ Ok tt
 unfolding packed
 packed_passes [] h = at_end 16 [] 0 (omega arith)
 packed_passes (v ∷ vs) h = check_joined 16 (varint v) (packed vs) (varint_passes v h.0) (packed_passes vs h.1)

@@ -11,7 +11,7 @@ use Rattle.wire_schema.specs.Schema.{kind_of, takes}
 use Rattle.wire_check_field.specs.Check.{check_of}
 use Rattle.wire_fields.specs.Items as i
 use Rattle.wire_fields.specs.Items.{Item, item_of, items}
-use Rattle.wire_check_field.specs.declared.Checked.TheVariants as checked
+use Rattle.std.specs.Prelude.{Ok}
 use Rattle.wire_check_field.proofs.Checks.{at_end}
 use Rattle.wire_fields.proofs.Follow.{none}
 use Rattle.write_forms.specs.Pieces.{Piece, number, some, bytes, text, list, run, varint, head, elements, encode, encode_all}
@@ -89,36 +89,36 @@ fields_back ps w h = (pieces_read ps w h).means
 -- ---- the check
 
 module _ (m : ℕ) (real : m ≡ 16 → ⊥) where
-  nothing_passes : check_of m [] ≡ checked.Fine
+  nothing_passes : check_of m [] ≡ Ok tt
   nothing_passes = at_end m [] 0 (omega arith)
 
-  optional_passes : (t : Bool) (s : List ℕ) → check_of m s ≡ checked.Fine → check_of m (pick t [] s) ≡ checked.Fine
+  optional_passes : (t : Bool) (s : List ℕ) → check_of m s ≡ Ok tt → check_of m (pick t [] s) ≡ Ok tt
   optional_passes true s h = nothing_passes
   optional_passes false s h = h
 
-  told : (k : ℕ) (d : List ℕ) (t : Bool) → leb 16 k ≡ t → Held t k d → leb 16 k ≡ true → check_of (k - 16) d ≡ checked.Fine
+  told : (k : ℕ) (d : List ℕ) (t : Bool) → leb 16 k ≡ t → Held t k d → leb 16 k ≡ true → check_of (k - 16) d ≡ Ok tt
   told k d true e h q = h
   told k d false e h q = let z : ◌≡◌ {A = ℕ} 0 1 = cc in absurd (omega arith)
 
   one_passes : (f : ℕ) (d : List ℕ) → Numbered f → takes (kind_of m f) 2 ≡ true → Held (leb 16 (kind_of m f)) (kind_of m f) d
-      → length (head f (length d) ++ d) < 2 ^ 64 → check_of m (head f (length d) ++ d) ≡ checked.Fine
+      → length (head f (length d) ++ d) < 2 ^ 64 → check_of m (head f (length d) ++ d) ≡ Ok tt
   one_passes f d n t c h =
       bytes_check f n.0 n.1 m real d (omega (arith, length-append (head f (length d)) d)) t (told (kind_of m f) d (leb 16 (kind_of m f)) refl c)
 
   text_passes : (b : Bool) (f : ℕ) (d : List ℕ) → Numbered f → takes (kind_of m f) 2 ≡ true → Held (leb 16 (kind_of m f)) (kind_of m f) d
-      → length (pick b [] (head f (length d) ++ d)) < 2 ^ 64 → check_of m (pick b [] (head f (length d) ++ d)) ≡ checked.Fine
+      → length (pick b [] (head f (length d) ++ d)) < 2 ^ 64 → check_of m (pick b [] (head f (length d) ++ d)) ≡ Ok tt
   text_passes true f d n t c h = nothing_passes
   text_passes false f d n t c h = one_passes f d n t c h
 
   elements_pass : (f : ℕ) (ds : List (List ℕ)) → Numbered f → takes (kind_of m f) 2 ≡ true → AllHeld (kind_of m f) ds
-      → length (elements f ds) < 2 ^ 64 → check_of m (elements f ds) ≡ checked.Fine
+      → length (elements f ds) < 2 ^ 64 → check_of m (elements f ds) ≡ Ok tt
   unfolding elements
   elements_pass f [] n t c h = nothing_passes
   elements_pass f (d ∷ ds) n t c h =
       let l = length-append (head f (length d) ++ d) (elements f ds) in
       check_joined m (head f (length d) ++ d) (elements f ds) (one_passes f d n t c.0 (omega arith)) (elements_pass f ds n t c.1 (omega arith))
 
-  piece_passes : (p : Piece) → Writable p → Suits m p → length (encode p) < 2 ^ 64 → check_of m (encode p) ≡ checked.Fine
+  piece_passes : (p : Piece) → Writable p → Suits m p → length (encode p) < 2 ^ 64 → check_of m (encode p) ≡ Ok tt
   unfolding encode
   piece_passes (number f v) w t h = number_checks f w.0.0 w.0.1 m real v w.1 t
   piece_passes (some f v) w t h = optional_passes (eqb v 0) _ (number_checks f w.0.0 w.0.1 m real v w.1 t)
@@ -128,7 +128,7 @@ module _ (m : ℕ) (real : m ≡ 16 → ⊥) where
   piece_passes (run r) w t h = t
 
   -- A MESSAGE OF PIECES THAT SUIT IT PASSES ITS CHECK
-  pub pieces_pass : (ps : List Piece) → AllWritable ps → AllSuit m ps → length (encode_all ps) < 2 ^ 64 → check_of m (encode_all ps) ≡ checked.Fine
+  pub pieces_pass : (ps : List Piece) → AllWritable ps → AllSuit m ps → length (encode_all ps) < 2 ^ 64 → check_of m (encode_all ps) ≡ Ok tt
   pieces_pass [] w t h = nothing_passes
   pieces_pass (p ∷ ps) w t h =
       let l = length-append (encode p) (encode_all ps) in

@@ -11,14 +11,14 @@ use Rattle.base_laws.specs.Base.{pick, both, part}
 use Rattle.base_laws.proofs.Order.{picked}
 use Rattle.wire_varint.specs.Varint.{varint_at}
 use Rattle.wire_schema.specs.Schema.{InfoMessage}
+use Rattle.wire_value.specs.Field.{part_of, as_part, payload_at}
 use Rattle.wire_varint.specs.Tag.{tag_at}
 use Rattle.wire_fields.specs.Items.{Item, items, every_bytes}
 use Rattle.wire_varint.specs.declared.tag.Tag.{Tag}
-use Rattle.wire_varint.specs.declared.tag.Tag.TheVariants as tag
-use Rattle.wire_value.specs.declared.Payload.{Payload}
-use Rattle.wire_value.specs.declared.Payload.TheVariants as payload
-use Rattle.wire_check_field.specs.declared.Checked.{Checked}
-use Rattle.wire_check_field.specs.declared.Checked.TheVariants as checked
+use Rattle.wire_types.specs.declared.Refusal.{Refusal}
+use Rattle.wire_types.specs.declared.Span.{Span}
+use Rattle.wire_types.specs.declared.Refused.{Refused}
+use Rattle.std.specs.Prelude.{Result, Ok, Err}
 use Rattle.wire_message.specs.Message as m
 use Rattle.wire_message.specs.Message.{Bytes, entry, entries}
 use Rattle.wire_range.specs.Limits.{is_set, entry_fits, entries_fit}
@@ -33,18 +33,26 @@ use Rattle.write_forms.proofs.Runs.{run_of, run_whole, run_joined}
 -- ---- a run is refused with the numbers of a message
 
 module _ (f : ℕ) (s : List ℕ) where
-  on_entry_told : (go : ℕ → Checked) → ((n : ℕ) → CheckTold (go n)) → (q : Payload) → Told q → CheckTold (on_entry go s q)
+  on_entry_told : (go : ℕ → Result Unit Refused) → ((n : ℕ) → CheckTold (go n)) → (q : Result Span Refused) → Told q → CheckTold (on_entry go s q)
   unfolding on_entry
-  on_entry_told go g (payload.Part a e) h = before_told a _ _ (check_told InfoMessage (part s a e)) (g e)
-  on_entry_told go g (payload.Number v n) h = g n
-  on_entry_told go g (payload.Fixed n) h = g n
-  on_entry_told go g (payload.Refused r p) h = h
+  on_entry_told go g (Ok p) h = before_told p.start _ _ (check_told InfoMessage (part s p.start p.end)) (g p.end)
+  on_entry_told go g (Err r) h = h
 
-  entry_of_told : (at : ℕ) (t : Tag) → TagTold t → Told (entry_of f s at t)
+  of_part : (p : Result Span Refused) → Told (as_part p) → Told p
+  unfolding as_part
+  of_part (Ok q) h = tt
+  of_part (Err r) h = h
+
+  part_told : (at x : ℕ) → Told (part_of s x (varint_at s x))
+  unfolding payload_at
+  part_told at x = of_part (part_of s x (varint_at s x)) (payload_told s at x 2)
+
+  entry_of_told : (at : ℕ) (t : Result Tag Refusal) → TagTold t → Told (entry_of f s at t)
   unfolding entry_of
-  entry_of_told at (tag.Refused r) h = h
-  entry_of_told at (tag.Field n w x) h =
-      picked Told (eqb n f) _ _ (λ _. picked Told (eqb w 2) _ _ (λ _. payload_told s at x w) (λ _. (omega arith, omega arith))) (λ _. (omega arith, omega arith))
+  entry_of_told at (Err r) h = h
+  entry_of_told at (Ok t) h =
+      picked Told (eqb t.number f) _ _
+      (λ _. picked Told (eqb t.wire 2) _ _ (λ _. part_told at t.next) (λ _. (omega arith, omega arith))) (λ _. (omega arith, omega arith))
 
   run_from_told : (k at : ℕ) → CheckTold (run_from k f s at)
   unfolding run_from entry_at tag_at
@@ -54,23 +62,23 @@ module _ (f : ℕ) (s : List ℕ) where
       (λ _. on_entry_told (run_from k f s) (run_from_told k) (entry_at f s at) (entry_of_told at (tag_at s at) (tag_told s (varint_at s at))))
       (λ _. tt)
 
-  number_fine : (c : Checked) (n : ℕ) → CheckTold c → check_number c n ≡ 0 → (c ≡ checked.Fine) × (n ≡ 0)
+  number_fine : (c : Result Unit Refused) (n : ℕ) → CheckTold c → check_number c n ≡ 0 → (c ≡ Ok tt) × (n ≡ 0)
   unfolding check_number
-  number_fine checked.Fine n h e = (refl, e)
-  number_fine (checked.Refused r p) n h e = absurd (omega arith)
+  number_fine (Ok u) n h e = (refl, e)
+  number_fine (Err r) n h e = absurd (omega arith)
 
   fit : (t : Bool) → ◌≡◌ {A = ℕ} (pick t 0 7) 0 → t ≡ true
   fit true e = refl
   fit false e = absurd (omega arith)
 
   -- no refusal: the run is taken, and its entries are in range
-  pub no_refusal : run_refusal f s ≡ 0 → (run_at f s 0 ≡ checked.Fine) × (entries_fit (entries f (items s)) ≡ true)
+  pub no_refusal : run_refusal f s ≡ 0 → (run_at f s 0 ≡ Ok tt) × (entries_fit (entries f (items s)) ≡ true)
   unfolding run_refusal run_at
   no_refusal e =
       let h = number_fine (run_at f s 0) (pick (entries_fit (entries f (items s))) 0 7) (run_from_told (suc (length s - 0)) 0) e in
       (h.0, fit (entries_fit (entries f (items s))) h.1)
 
-  pub no_refusal_of : run_at f s 0 ≡ checked.Fine → entries_fit (entries f (items s)) ≡ true → run_refusal f s ≡ 0
+  pub no_refusal_of : run_at f s 0 ≡ Ok tt → entries_fit (entries f (items s)) ≡ true → run_refusal f s ≡ 0
   unfolding run_refusal check_number
   no_refusal_of e h = rw (e, h)
 

@@ -14,7 +14,7 @@ use Rattle.wire_check_field.specs.Check.{check_of}
 use Rattle.wire_fields.specs.Fields.{among}
 use Rattle.wire_fields.specs.Items as i
 use Rattle.wire_fields.specs.Items.{Item, items, last_item, every_bytes}
-use Rattle.wire_check_field.specs.declared.Checked.TheVariants as checked
+use Rattle.std.specs.Prelude.{Ok}
 use Rattle.wire_message.specs.Message as m
 use Rattle.wire_message.specs.Message.{Bytes, Client, Server, client_member, server_member}
 use Rattle.wire.specs.Read.{Reading, value, after, member, client_message, server_message}
@@ -40,7 +40,7 @@ module _ (k hi f : ℕ) (x : Bytes) (real : k ≡ 16 → ⊥) (from : 1 ≤ f) (
   ok : AllWritable (bytes f x ∷ [])
   ok = ((from, omega arith), tt)
 
-  member_passes : check_of k (encode_all (bytes f x ∷ [])) ≡ checked.Fine
+  member_passes : check_of k (encode_all (bytes f x ∷ [])) ≡ Ok tt
   member_passes = pieces_pass k real (bytes f x ∷ []) ok ((taken, held), tt) h
 
   member_found : last_item 1 hi (items (encode_all (bytes f x ∷ []))) ≡ i.bytes f x
@@ -118,7 +118,7 @@ wrapped_is f ps h = rw (ne_eqb f 0 (omega arith))
 wrapped_short : (f : ℕ) (ps : List Piece) → Short (encode_all (bytes f (encode_all ps) ∷ [])) → Short (encode_all ps)
 wrapped_short f ps h = held_short [] [] f (encode_all ps) h
 
-client_of_lem : (f : ℕ) (x : Bytes) (c : Client) → 1 ≤ f → f ≤ 13 → check_of (kind_of 0 f - 16) x ≡ checked.Fine → client_member f (items x) ≡ c
+client_of_lem : (f : ℕ) (x : Bytes) (c : Client) → 1 ≤ f → f ≤ 13 → check_of (kind_of 0 f - 16) x ≡ Ok tt → client_member f (items x) ≡ c
     → Short (encode_all (bytes f x ∷ [])) → client_message (encode_all (bytes f x ∷ [])) ≡ value c
 unfolding client_message after member
 client_of_lem f x c h l p e s =
@@ -201,7 +201,7 @@ same_value : {A : Type 0} (x y : A) → ◌≡◌ {A = Reading A} (value x) (val
 same_value x y e = cc
 
 run_one : (f : ℕ) → Numbered f → (key : Bytes) (v : EntryDraft) → EntryParts v → Short (wrapped f (d.entry_pieces key v))
-    → run_at f (wrapped f (d.entry_pieces key v)) 0 ≡ checked.Fine
+    → run_at f (wrapped f (d.entry_pieces key v)) 0 ≡ Ok tt
 unfolding encode
 run_one f n key v p h =
     let ps : List Piece = d.entry_pieces key v in
@@ -217,7 +217,7 @@ one_element f n x s = every_back (bytes f x ∷ []) (n, tt) s f ∙ rw (eq-eqb f
 
 -- a run written entry by entry
 module _ (f : ℕ) (n : Numbered f) where
-  run_written : (es : List Keyed) → AllKeyed es → Short (written_run f es) → run_at f (written_run f es) 0 ≡ checked.Fine
+  run_written : (es : List Keyed) → AllKeyed es → Short (written_run f es) → run_at f (written_run f es) 0 ≡ Ok tt
   unfolding written_run
   run_written [] p h = runs.run_none f
   run_written (e ∷ es) p h =

@@ -2,32 +2,33 @@
 -- a written entry is such a run, and so are two runs one behind the other.
 use Prim.Native.Nat.{ℕ, zero, suc, ◌+◌, ◌-◌, ◌^◌, ◌≤◌, ◌<◌}
 use native.Mathlib.Omega.{arith}
-use mathlib.Core.Path.{◌≡◌, refl, sym, subst, ap, ◌∙◌}
+use mathlib.Core.Path.{◌≡◌, refl, subst, ap, ◌∙◌}
 use mathlib.Core.List.{List, [], ◌∷◌, ◌++◌, map}
 use mathlib.Core.Bool.{Bool, true, false}
 use mathlib.Core.Logic.{⊎_elim}
 use lib.ListN.{length, length-append}
-use lib.Dec.{leb, eqb}
+use lib.Dec.{eqb}
 use borrow.Author.Tests.{lt-ltb, le-ltb, eq-eqb, ne_eqb, eqb-true}
 use Rattle.base_laws.specs.Base.{pick, part}
-use Rattle.base_laws.proofs.Order.{lt_or_le, picked}
+use Rattle.base_laws.proofs.Order.{lt_or_le}
 use Rattle.wire_varint.specs.Varint.{varint_at}
 use Rattle.wire_schema.specs.Schema.{kind_of, takes, message, InfoMessage}
-use Rattle.wire_value.specs.Field.{part_of, payload_at}
+use Rattle.wire_value.specs.Field.{part_of, as_part, payload_at}
 use Rattle.wire_varint.specs.Tag.{tag_at}
-use Rattle.wire_check_field.specs.Check.{step_of, step_from, step_at}
+use Rattle.wire_check_field.specs.Check.{step_of, step_read, step_from, step_at}
 use Rattle.wire_check_field.specs.Check.{before, check_of}
-use Rattle.wire_fields.specs.Fields.{among, field_of, field_from, field_at, on_field, fields_at}
+use Rattle.wire_fields.specs.Fields.{among, field_with, field_of, field_from, field_at, on_field, fields_at}
 use Rattle.wire_fields.specs.Items.{Item, bytes, item_of, items, last_from}
-use Rattle.wire_varint.specs.declared.Varint.{Varint}
-use Rattle.wire_varint.specs.declared.Varint.TheVariants.{Value, PastEnd, TooLong}
 use Rattle.wire_varint.specs.declared.tag.Tag.{Tag}
-use Rattle.wire_varint.specs.declared.tag.Tag.TheVariants as tag
-use Rattle.wire_value.specs.declared.Payload.{Payload}
+use Rattle.wire_types.specs.Refusals.{at_place}
+use Rattle.wire_types.specs.declared.Refusal.{Refusal}
+use Rattle.wire_types.specs.declared.Refusal.TheVariants as refusal
+use Rattle.wire_types.specs.declared.Span.{Span}
 use Rattle.wire_value.specs.declared.Payload.TheVariants as payload
+use Rattle.wire_check_field.proofs.Walk.{field_tag, span}
 use Rattle.wire_check_field.specs.declared.Step.TheVariants as step
-use Rattle.wire_check_field.specs.declared.Checked.{Checked}
-use Rattle.wire_check_field.specs.declared.Checked.TheVariants as checked
+use Rattle.wire_types.specs.declared.Refused.{Refused}
+use Rattle.std.specs.Prelude.{Option, Some, Result, Ok, Err}
 use Rattle.wire_fields.specs.declared.Field.{Field}
 use Rattle.wire_fields.specs.declared.Field.TheVariants as field
 use Rattle.wire_fields.proofs.Reach.{TagRead, tag_at_lem, PayloadRead, payload_at_lem}
@@ -35,8 +36,8 @@ use Rattle.wire_fields.proofs.Follow.{follow, none}
 use Rattle.wire_elements.specs.Elements.{items_at}
 use Rattle.write_forms.specs.Pieces.{head}
 use Rattle.write_forms.specs.Run.{entry_of, entry_at, on_entry, run_from, run_at}
-use Rattle.write_forms.proofs.Moves.{InBounds, Taken, TakenField, moved_payload, part_moves, tag_moves, payload_moves}
-use Rattle.write_forms.proofs.Chains.{Chain, done, more, both_fine, Stepped, into, passes, end_of, FieldTo}
+use Rattle.write_forms.proofs.Moves.{InBounds, part_moves, tag_moves, payload_moves}
+use Rattle.write_forms.proofs.Chains.{Chain, done, more, both_fine, Stepped, into, passes, FieldTo}
 use Rattle.write_forms.proofs.Joined.{joined}
 use Rattle.write_forms.proofs.Single.{single_bytes, positive, held}
 
@@ -45,55 +46,56 @@ pub record EntryAt (f : ℕ) (s : List ℕ) (at n : ℕ) : Type 0 where
   pub value : ℕ
   pub start : ℕ
   pub order : start ≤ n
-  pub tagged : tag_at s at ≡ tag.Field f 2 value
-  pub holds : payload_at s at value 2 ≡ payload.Part start n
-  pub fine : check_of InfoMessage (part s start n) ≡ checked.Fine
+  pub tagged : tag_at s at ≡ field_tag f 2 value
+  pub holds : payload_at s at value 2 ≡ Ok (payload.Part (span start n))
+  pub fine : check_of InfoMessage (part s start n) ≡ Ok tt
 
 abbrev pub Run : ℕ → List ℕ → ℕ → Type 0
 Run f s at = Chain (EntryAt f s) (length s) at
 
--- a value of wire type 2 is no number
-abbrev Bytes : Payload → Type 0
-Bytes (payload.Number v n) = ⊥
-Bytes (payload.Fixed n) = ⊥
-Bytes (payload.Part a e) = Unit
-Bytes (payload.Refused r p) = Unit
+-- the value of wire type 2 is where its bytes are
+as_payload : (s : List ℕ) (at x : ℕ) (p : Span) → part_of s x (varint_at s x) ≡ Ok p → payload_at s at x 2 ≡ Ok (payload.Part p)
+unfolding payload_at as_part
+as_payload s at x p h = rw h
 
-bytes_only : (s : List ℕ) (x : ℕ) (r : Varint) → Bytes (part_of s x r)
-unfolding part_of
-bytes_only s x (Value v n) = picked Bytes (leb v (length s - n)) _ _ (λ _. tt) (λ _. tt)
-bytes_only s x PastEnd = tt
-bytes_only s x TooLong = tt
+-- and the other way round
+from_part : (r : Result Span Refused) (p : Span) → as_part r ≡ Ok (payload.Part p) → r ≡ Ok p
+unfolding as_part
+from_part (Ok q) p h = grind arith
+from_part (Err e) p h = grind arith
+
+of_payload : (s : List ℕ) (at x : ℕ) (p : Span) → payload_at s at x 2 ≡ Ok (payload.Part p) → part_of s x (varint_at s x) ≡ Ok p
+unfolding payload_at
+of_payload s at x p h = from_part (part_of s x (varint_at s x)) p h
 
 -- ---- a run that is taken is a chain
 
 module _ (f : ℕ) (s : List ℕ) where
-  module _ (at : ℕ) (go : ℕ → Checked) (l : at < length s) (on : (n : ℕ) → at < n → n ≤ length s → go n ≡ checked.Fine → Run f s n) where
-    by_value : (x : ℕ) → at < x → tag_at s at ≡ tag.Field f 2 x → (q : Payload) → payload_at s at x 2 ≡ q → PayloadRead s x q → Bytes q
-        → on_entry go s q ≡ checked.Fine → Run f s at
+  module _ (at : ℕ) (go : ℕ → Result Unit Refused) (l : at < length s) (on : (n : ℕ) → at < n → n ≤ length s → go n ≡ Ok tt → Run f s n) where
+    by_value : (x : ℕ) → at < x → x ≤ length s → tag_at s at ≡ field_tag f 2 x → (q : Result Span Refused) → part_of s x (varint_at s x) ≡ q
+        → on_entry go s q ≡ Ok tt → Run f s at
     unfolding on_entry
-    by_value x i t (payload.Part a e) v h b c =
-        let w = both_fine a (check_of InfoMessage (part s a e)) (go e) c in
-        more {at = at} {n = e} (omega arith) h.2 (record { value = x; start = a; order = h.1; tagged = t; holds = v; fine = w.0 }) (on e (omega arith) h.2 w.1)
-    by_value x i t (payload.Number v n) e h b c = absurd b
-    by_value x i t (payload.Fixed n) e h b c = absurd b
-    by_value x i t (payload.Refused r p) e h b c = let z : ◌≡◌ {A = ℕ} 0 1 = cc in absurd (omega arith)
+    by_value x i w t (Ok p) v c =
+        let h = subst (PayloadRead s x) (as_payload s at x p v) (payload_at_lem s x w at 2 (omega arith)) in
+        let b = both_fine p.start (check_of InfoMessage (part s p.start p.end)) (go p.end) c in
+        more {at = at} {n = p.end} (omega arith) h.2 (record { value = x; start = p.start; order = h.1; tagged = t; holds = as_payload s at x p v; fine = b.0 }) (on p.end (omega arith) h.2 b.1)
+    by_value x i w t (Err r) v c = grind arith
 
-    by_tag : (t : Tag) → tag_at s at ≡ t → TagRead s at t → on_entry go s (entry_of f s at t) ≡ checked.Fine → Run f s at
-    unfolding entry_of on_entry payload_at
-    by_tag (tag.Refused r) e h c = let z : ◌≡◌ {A = ℕ} 0 1 = cc in absurd (omega arith)
-    by_tag (tag.Field n w x) e h c = inner (eqb n f) refl (eqb w 2) refl c
+    by_tag : (t : Result Tag Refusal) → tag_at s at ≡ t → TagRead s at t → on_entry go s (entry_of f s at t) ≡ Ok tt → Run f s at
+    unfolding entry_of on_entry
+    by_tag (Err r) e h c = grind arith
+    by_tag (Ok t) e h c = inner (eqb t.number f) refl (eqb t.wire 2) refl c
       where
-        inner : (t : Bool) → eqb n f ≡ t → (u : Bool) → eqb w 2 ≡ u
-            → on_entry go s (pick t (pick u (payload_at s at x w) (payload.Refused 5 at)) (payload.Refused 4 at)) ≡ checked.Fine → Run f s at
+        inner : (b : Bool) → eqb t.number f ≡ b → (u : Bool) → eqb t.wire 2 ≡ u
+            → on_entry go s (pick b (pick u (part_of s t.next (varint_at s t.next)) (Err (at_place refusal.WireType at))) (Err (at_place refusal.Tag at))) ≡ Ok tt → Run f s at
         inner true p true q c =
-            let a : n ≡ f = eqb-true n f p in
-            let b : w ≡ 2 = eqb-true w 2 q in
-            by_value x h.0 (e ∙ rw (a, b)) (payload_at s at x 2) refl (payload_at_lem s x h.1 at 2 (omega arith)) (bytes_only s x (varint_at s x)) (rw b at c)
-        inner true p false q c = let z : ◌≡◌ {A = ℕ} 0 1 = cc in absurd (omega arith)
-        inner false p u q c = let z : ◌≡◌ {A = ℕ} 0 1 = cc in absurd (omega arith)
+            let a : t.number ≡ f = eqb-true t.number f p in
+            let b : t.wire ≡ 2 = eqb-true t.wire 2 q in
+            by_value t.next h.0 h.1 (e ∙ rw (a, b)) (part_of s t.next (varint_at s t.next)) refl c
+        inner true p false q c = grind arith
+        inner false p u q c = grind arith
 
-  from : (k at : ℕ) → length s - at < k → at ≤ length s → run_from k f s at ≡ checked.Fine → Run f s at
+  from : (k at : ℕ) → length s - at < k → at ≤ length s → run_from k f s at ≡ Ok tt → Run f s at
   unfolding run_from entry_at
   from zero at l i h = absurd (omega arith)
   from (suc k) at l i h =
@@ -103,20 +105,20 @@ module _ (f : ℕ) (s : List ℕ) where
       (λ (j : length s ≤ at). let e : length s ≡ at = omega arith in subst (λ (n : ℕ). Run f s n) e done)
       (lt_or_le at (length s))
 
-  pub run_of : run_at f s 0 ≡ checked.Fine → Run f s 0
+  pub run_of : run_at f s 0 ≡ Ok tt → Run f s 0
   unfolding run_at
   run_of h = from (suc (length s - 0)) 0 (omega arith) (omega arith) h
 
   -- and such a chain is taken
-  taken_from : (k : ℕ) {at : ℕ} → Run f s at → run_from k f s at ≡ checked.Fine
+  taken_from : (k : ℕ) {at : ℕ} → Run f s at → run_from k f s at ≡ Ok tt
   unfolding run_from entry_at entry_of on_entry before
   taken_from zero c = refl
   taken_from (suc k) done = rw (le-ltb (length s) (length s) (omega arith))
   taken_from (suc k) (more {at} {n} lt le h r) =
       let j : at < length s = omega arith in
-      rw (lt-ltb at (length s) j, h.tagged, eq-eqb f f refl, h.holds, h.fine) (taken_from k r)
+      rw (lt-ltb at (length s) j, h.tagged, eq-eqb f f refl, of_payload s at h.value (span h.start n) h.holds, h.fine) (taken_from k r)
 
-  pub run_taken : Run f s 0 → run_at f s 0 ≡ checked.Fine
+  pub run_taken : Run f s 0 → run_at f s 0 ≡ Ok tt
   unfolding run_at
   run_taken c = taken_from (suc (length s - 0)) c
 
@@ -124,31 +126,29 @@ module _ (f : ℕ) (s : List ℕ) where
 
 module _ (m f : ℕ) (real : m ≡ 16 → ⊥) (kind : kind_of m f ≡ message InfoMessage) (s : List ℕ) where
   steps : (at n : ℕ) → EntryAt f s at n → Stepped m s at n
-  unfolding step_at step_from step_of takes
+  unfolding step_at step_from step_read step_of takes
   steps at n h =
-      let e : step_at m s at ≡ step.Inside InfoMessage h.start n = rw (ne_eqb m 16 real, h.tagged, kind, h.holds) in
+      let e : step_at m s at ≡ Ok (step.Inside InfoMessage h.start n) = rw (ne_eqb m 16 real, h.tagged, kind, h.holds) in
       into h.order e h.fine
 
   chain : {at : ℕ} → Run f s at → Chain (Stepped m s) (length s) at
   chain done = done
   chain (more {at} {n} lt le h r) = more lt le (steps at n h) (chain r)
 
-  pub run_passes : Run f s 0 → check_of m s ≡ checked.Fine
+  pub run_passes : Run f s 0 → check_of m s ≡ Ok tt
   run_passes c = passes m s (chain c)
 
 -- a run's fields are all f: the last of other numbers is the one before it
 module _ (f : ℕ) (s : List ℕ) where
   item_at : (at n : ℕ) → at < n → n ≤ length s → (h : EntryAt f s at n) → items_at s at ≡ bytes f (part s h.start n) ∷ items_at s n
-  unfolding field_at field_from field_of on_field
+  unfolding field_at field_from field_of field_with on_field
   item_at at n lt le h =
-      let e : field_at s at ≡ field.Part f h.start n = rw (h.tagged, h.holds) in
-      ap (map (item_of s)) (follow s at (omega arith) ∙ ap (λ (x : Field). on_field (fields_at s) x) e)
+      let e : field_at s at ≡ Some (field.Part f h.start n) = rw (h.tagged, h.holds) in
+      ap (map (item_of s)) (follow s at (omega arith) ∙ ap (λ (x : Option Field). on_field (fields_at s) x) e)
 
   field_at_lem : (at n : ℕ) → EntryAt f s at n → FieldTo s at n
-  unfolding field_at field_from field_of
-  field_at_lem at n h =
-      let e : field_at s at ≡ field.Part f h.start n = rw (h.tagged, h.holds) in
-      record { taken = subst TakenField (sym e) tt; ends = ap end_of e }
+  unfolding field_at field_from field_of field_with
+  field_at_lem at n h = record { field = field.Part f h.start n; taken = rw (h.tagged, h.holds); ends = refl }
 
   pub run_whole : {at : ℕ} → Run f s at → Chain (FieldTo s) (length s) at
   run_whole done = done
@@ -174,19 +174,19 @@ entry_moves f S s p l a b le h = record {
   start = p + h.start;
   order = omega (arith, h.order);
   tagged = tag_moves l a f 2 h.value h.tagged;
-  holds = payload_moves l a h.value 2 (subst Taken (sym h.holds) tt) ∙ ap (moved_payload p) h.holds;
+  holds = payload_moves l a h.value 2 _ h.holds;
   fine = rw (part_moves l h.start b le) h.fine;
 }
 
-pub run_none : (f : ℕ) → run_at f [] 0 ≡ checked.Fine
+pub run_none : (f : ℕ) → run_at f [] 0 ≡ Ok tt
 run_none f = run_taken f [] done
 
 -- two runs, one behind the other, are a run
-pub run_joined : (f : ℕ) (a b : List ℕ) → run_at f a 0 ≡ checked.Fine → run_at f b 0 ≡ checked.Fine → run_at f (a ++ b) 0 ≡ checked.Fine
+pub run_joined : (f : ℕ) (a b : List ℕ) → run_at f a 0 ≡ Ok tt → run_at f b 0 ≡ Ok tt → run_at f (a ++ b) 0 ≡ Ok tt
 run_joined f a b x y = run_taken f (a ++ b) (joined (EntryAt f) (entry_moves f) a b (run_of f a x) (run_of f b y))
 
 -- one written entry is a run
-pub run_one : (f : ℕ) (d : List ℕ) → 1 ≤ f → f < 2 ^ 29 → length d < 2 ^ 64 → check_of InfoMessage d ≡ checked.Fine → run_at f (head f (length d) ++ d) 0 ≡ checked.Fine
+pub run_one : (f : ℕ) (d : List ℕ) → 1 ≤ f → f < 2 ^ 29 → length d < 2 ^ 64 → check_of InfoMessage d ≡ Ok tt → run_at f (head f (length d) ++ d) 0 ≡ Ok tt
 run_one f d h l i c =
     let s : List ℕ = head f (length d) ++ d in
     let o = single_bytes f d h l i in

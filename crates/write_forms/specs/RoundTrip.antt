@@ -8,7 +8,7 @@ use Rattle.wire_schema.specs.Schema.{kind_of, takes, message, ClientMessage, Tim
 use Rattle.wire_check_field.specs.Check.{check_of}
 use Rattle.wire_fields.specs.Items as i
 use Rattle.wire_fields.specs.Items.{Item, items}
-use Rattle.wire_check_field.specs.declared.Checked.TheVariants as checked
+use Rattle.std.specs.Prelude.{Ok}
 use Rattle.wire_message.specs.Signed.{int64, int32}
 use Rattle.wire_message.specs.Message as m
 use Rattle.wire_message.specs.Message.{Bytes, Client, client_member}
@@ -44,7 +44,7 @@ Writable (some f v) = Numbered f × (v < 2 ^ 64)
 Writable (bytes f d) = Numbered f
 Writable (text f d) = Numbered f
 Writable (list f ds) = Numbered f
-Writable (run r) = (f : ℕ) × (run_at f r 0 ≡ checked.Fine)
+Writable (run r) = (f : ℕ) × (run_at f r 0 ≡ Ok tt)
 
 abbrev pub AllWritable : List Piece → Type 0
 AllWritable [] = Unit
@@ -52,7 +52,7 @@ AllWritable (p ∷ ps) = Writable p × AllWritable ps
 
 -- bytes that a field of this kind takes: those of an embedded message, or packed numbers, pass in turn
 abbrev pub Held : Bool → ℕ → List ℕ → Type 0
-Held true k d = check_of (k - 16) d ≡ checked.Fine
+Held true k d = check_of (k - 16) d ≡ Ok tt
 Held false k d = Unit
 
 abbrev pub AllHeld : ℕ → List (List ℕ) → Type 0
@@ -66,7 +66,7 @@ Suits m (some f v) = takes (kind_of m f) 0 ≡ true
 Suits m (bytes f d) = (takes (kind_of m f) 2 ≡ true) × Held (leb 16 (kind_of m f)) (kind_of m f) d
 Suits m (text f d) = (takes (kind_of m f) 2 ≡ true) × Held (leb 16 (kind_of m f)) (kind_of m f) d
 Suits m (list f ds) = (takes (kind_of m f) 2 ≡ true) × AllHeld (kind_of m f) ds
-Suits m (run r) = check_of m r ≡ checked.Fine
+Suits m (run r) = check_of m r ≡ Ok tt
 
 abbrev pub AllSuit : ℕ → List Piece → Type 0
 AllSuit m [] = Unit
@@ -85,11 +85,11 @@ Stamped t = (t.seconds < 2 ^ 64) × (t.nanos < 2 ^ 64)
 
 -- a run has to be one that is taken: refusals 2 to 5 are its reader's. The kind of an I/O buffer is its field number.
 abbrev pub ClientParts : ClientDraft → Type 0
-ClientParts (accept t r e) = Stamped t × (run_at 2 r 0 ≡ checked.Fine)
-ClientParts (reject t x r) = Stamped t × (run_at 3 r 0 ≡ checked.Fine)
+ClientParts (accept t r e) = Stamped t × (run_at 2 r 0 ≡ Ok tt)
+ClientParts (reject t x r) = Stamped t × (run_at 3 r 0 ≡ Ok tt)
 ClientParts (exit t v c x y) = Stamped t × (v < 2 ^ 64)
 ClientParts (restart x t) = Stamped t
-ClientParts (alert t x r) = Stamped t × (run_at 3 r 0 ≡ checked.Fine)
+ClientParts (alert t x r) = Stamped t × (run_at 3 r 0 ≡ Ok tt)
 ClientParts (io k t d) = ((6 ≤ k) × (k ≤ 10)) × Stamped t
 ClientParts (window t x y) = Stamped t × ((x < 2 ^ 64) × (y < 2 ^ 64))
 ClientParts (suspend t d) = Stamped t
@@ -243,7 +243,7 @@ written_run f (e ∷ es) = wrapped f (entry_pieces e.key e.value) ++ written_run
 
 -- bytes that the check of the message m takes, and that are read as v
 pub record ReadsAs {A : Type 0} (m : ℕ) (s : Bytes) (read : List Item → A) (v : A) : Type 0 where
-  pub fine : check_of m s ≡ checked.Fine
+  pub fine : check_of m s ≡ Ok tt
   pub means : read (items s) ≡ v
 
 -- ---- the claims
@@ -253,7 +253,7 @@ pub record RoundTrip : Type 0 where
   pub fields : (ps : List Piece) → AllWritable ps → Short (encode_all ps) → items (encode_all ps) ≡ items_of ps
   -- a message of pieces that suit it is refused nothing; message 16 stands for packed numbers, which have no fields
   pub check : (m : ℕ) → (m ≡ 16 → ⊥) → (ps : List Piece) → AllWritable ps → AllSuit m ps → Short (encode_all ps)
-      → check_of m (encode_all ps) ≡ checked.Fine
+      → check_of m (encode_all ps) ≡ Ok tt
   -- a written ClientMessage or ServerMessage reads back as what it means
   pub client : (d : ClientDraft) → WritableClient d → client_message (written_client d) ≡ value (meant_client d)
   pub server : (d : ServerDraft) → WritableServer d → server_message (written_server d) ≡ value (meant_server d)
@@ -294,18 +294,18 @@ pub record RoundTrip : Type 0 where
       (record { server_id = id; redirect = redirect; servers = servers; subcommands = sub })
   -- a run that is written entry by entry is taken, and its entries are those written
   pub run_written : (f : ℕ) → Numbered f → (es : List Keyed) → AllKeyed es → Short (written_run f es)
-      → run_at f (written_run f es) 0 ≡ checked.Fine
+      → run_at f (written_run f es) 0 ≡ Ok tt
   pub run_means : (f : ℕ) → Numbered f → (es : List Keyed) → AllKeyed es → Short (written_run f es)
       → m.entries f (items (written_run f es)) ≡ map (λ (e : Keyed). meant_entry e.key e.value) es
   -- a written entry with its tag is a run of one entry, and runs one behind the other are a run
   pub run_one : (f : ℕ) → Numbered f → (key : Bytes) (v : EntryDraft) → EntryParts v → Short (wrapped f (entry_pieces key v))
-      → run_at f (wrapped f (entry_pieces key v)) 0 ≡ checked.Fine
-  pub run_joined : (f : ℕ) (a b : Bytes) → run_at f a 0 ≡ checked.Fine → run_at f b 0 ≡ checked.Fine → run_at f (a ++ b) 0 ≡ checked.Fine
+      → run_at f (wrapped f (entry_pieces key v)) 0 ≡ Ok tt
+  pub run_joined : (f : ℕ) (a b : Bytes) → run_at f a 0 ≡ Ok tt → run_at f b 0 ≡ Ok tt → run_at f (a ++ b) 0 ≡ Ok tt
   -- the same of a writer's whole refusal of its run, the ranges of the entries included; where there is none, the run is taken
   pub run_one_taken : (f : ℕ) → Numbered f → (key : Bytes) (v : EntryDraft) → EntryParts v → Short (wrapped f (entry_pieces key v))
       → 1 ≤ length key → run_refusal f (wrapped f (entry_pieces key v)) ≡ 0
   pub run_joined_taken : (f : ℕ) (a b : Bytes) → run_refusal f a ≡ 0 → run_refusal f b ≡ 0 → run_refusal f (a ++ b) ≡ 0
-  pub run_taken : (f : ℕ) (r : Bytes) → run_refusal f r ≡ 0 → run_at f r 0 ≡ checked.Fine
+  pub run_taken : (f : ℕ) (r : Bytes) → run_refusal f r ≡ 0 → run_at f r 0 ≡ Ok tt
   -- a framed message, whatever stands behind it, is cut as a frame that holds it
   pub frame : (m rest : Bytes) → length m ≤ largest → cut_of (front true (length m) ++ (m ++ rest)) ≡ cut.Frame (length m)
   pub framed : (m rest : Bytes) → part (front true (length m) ++ (m ++ rest)) 4 (4 + length m) ≡ m

@@ -1,12 +1,13 @@
 -- What a writer answers and leaves, case by case. Assumes nothing.
-use mathlib.Core.Path.{◌≡◌, refl, sym, ap, ◌∙◌}
+use mathlib.Core.Path.{◌≡◌, refl, sym, ap, subst, ◌∙◌}
 use Prim.Native.Nat.{ℕ, ◌+◌, ◌≤◌}
 use native.Mathlib.Omega.{arith}
 use mathlib.Core.List.{List, [], ◌∷◌, ◌++◌, append-nil}
 use mathlib.Core.Bool.{Bool, true, false}
 use lib.ListN.{length, length-append}
 use lib.Dec.{ltb, eqb}
-use borrow.Author.Tests.{lt-ltb, ltb-false, eq-eqb, ne_eqb}
+use borrow.Author.Tests.{lt-ltb, ltb-false, eq-eqb, ne_eqb, eqb-true, eqb-false}
+use Rattle.std.specs.Prelude.{Result, Ok, Err}
 use Rattle.base_laws.specs.Base.{pick}
 use Rattle.write_forms.specs.Pieces.{Piece, bytes, head, encode, encode_all, front}
 use Rattle.write_forms.specs.Draft.{wrapped}
@@ -15,8 +16,9 @@ use Rattle.base_copy.specs.Put.{Put}
 use Rattle.write_pieces.specs.Parts.{Like, exact, beyond, cover, around}
 use Rattle.base_copy.proofs.Puts.{then}
 use Rattle.write_pieces.proofs.Lengths.{like_exact, like_around}
-use Rattle.write_message.specs.Wrote.{wrote, WriteOutcome}
-use Rattle.write_message.specs.declared.outcome.Wrote.{Wrote}
+use Rattle.write_message.specs.Wrote.{wrote, error_of, room_for, WriteOutcome}
+use Rattle.write_message.specs.declared.outcome.WriteError.{WriteError}
+use Rattle.write_message.specs.declared.outcome.WriteError.TheVariants.{Run, Range}
 
 -- ---- the message as a field of the message around it
 
@@ -62,9 +64,18 @@ pub record Fits (framed : Bool) (n room : ℕ) : Type 0 where
   pub short : n ≤ 2097152
   pub within : length (front framed n) + n ≤ room
 
-pub room_fits : (framed : Bool) (n room : ℕ) {r : ℕ} → r ≡ room_refusal framed n room → r ≡ 0 → Fits framed n room
+no_refusal : (framed : Bool) (n room : ℕ) {v : Unit} → Ok v ≡ room_for framed n room → room_refusal framed n room ≡ 0
+no_refusal framed n room e = go (eqb (room_refusal framed n room) 0) refl e
+  where
+    go : (t : Bool) → eqb (room_refusal framed n room) 0 ≡ t
+        → ◌≡◌ {A = Result Unit WriteError} (Ok tt) (pick t (Ok tt) (Err (error_of 0 (room_refusal framed n room))))
+        → room_refusal framed n room ≡ 0
+    go true z k = eqb-true (room_refusal framed n room) 0 z
+    go false z k = let w : ◌≡◌ {A = ℕ} 0 1 = cc in absurd (omega arith)
+
+pub room_fits : (framed : Bool) (n room : ℕ) {v : Unit} → Ok v ≡ room_for framed n room → Fits framed n room
 unfolding room_refusal
-room_fits framed n room e z = go (ltb 2097152 n) refl (ltb room (length (front framed n) + n)) refl (sym z ∙ e)
+room_fits framed n room e = go (ltb 2097152 n) refl (ltb room (length (front framed n) + n)) refl (sym (no_refusal framed n room e))
   where
     go : (a : Bool) → ltb 2097152 n ≡ a → (b : Bool) → ltb room (length (front framed n) + n) ≡ b
         → ◌≡◌ {A = ℕ} 0 (pick a 1 (pick b 12 0)) → Fits framed n room
@@ -91,7 +102,7 @@ unfolding refusal buffer
 unfit_buffer r framed m m' out = rw (never r)
 
 -- the same by equal arguments; the message counts only where the values are in range
-pub same_outcome : {r : ℕ} {fits framed : Bool} {m out : List ℕ} {w : Wrote} {out' : List ℕ} → WriteOutcome r fits framed m out w out'
+pub same_outcome : {r : ℕ} {fits framed : Bool} {m out : List ℕ} {w : Result ℕ WriteError} {out' : List ℕ} → WriteOutcome r fits framed m out w out'
     → (r' : ℕ) (fits' : Bool) (m' : List ℕ) → r ≡ r' → fits ≡ fits' → (fits' ≡ true → m ≡ m')
     → (w ≡ wrote r' fits' framed m' (length out)) × (out' ≡ buffer r' fits' framed m' out)
 same_outcome h r' true m' e f g = (rw (e, f, g refl) at h.answer, rw (e, f, g refl) at h.leaves)
@@ -100,9 +111,14 @@ same_outcome {framed = framed} {m} {out} h r' false m' e f g = (
   rw (e, f) at h.leaves ∙ unfit_buffer r' framed m m' out,
 )
 
-pub same_range : {r : ℕ} {fits fits' framed : Bool} {m out : List ℕ} {w : Wrote} {out' : List ℕ} → WriteOutcome r fits framed m out w out'
+pub same_range : {r : ℕ} {fits fits' framed : Bool} {m out : List ℕ} {w : Result ℕ WriteError} {out' : List ℕ} → WriteOutcome r fits framed m out w out'
     → fits ≡ fits' → WriteOutcome r fits' framed m out w out'
 same_range h e = rw e at h
+
+-- a refusal is the same, whatever would have been returned
+abbrev err_as_size : Result Unit WriteError → Result ℕ WriteError
+err_as_size (Ok v) = Ok 0
+err_as_size (Err x) = Err x
 
 in_range_lem : (r : ℕ) (fits framed : Bool) (m : List ℕ) (room : ℕ) → r ≡ 0 → fits ≡ true
     → refusal r fits framed m room ≡ room_refusal framed (length m) room
@@ -111,29 +127,44 @@ in_range_lem r fits framed m room e f = rw (eq-eqb r 0 e, f)
 
 module _ {r : ℕ} {fits framed : Bool} {m out : List ℕ} where
   refused : {q : ℕ} → refusal r fits framed m (length out) ≡ q → (q ≡ 0 → ⊥)
-      → WriteOutcome r fits framed m out (record { refusal = q; size = 0 }) out
+      → WriteOutcome r fits framed m out (Err (error_of r q)) out
   unfolding size buffer
   refused {q} e z = record { answer = rw (e, ne_eqb q 0 z); leaves = rw (e, ne_eqb q 0 z) }
 
-  pub run_refused : (r ≡ 0 → ⊥) → WriteOutcome r fits framed m out (record { refusal = r; size = 0 }) out
+  -- the same, the refusal by its name
+  refused_as : {q : ℕ} {x : WriteError} → refusal r fits framed m (length out) ≡ q → (q ≡ 0 → ⊥) → error_of r q ≡ x
+      → WriteOutcome r fits framed m out (Err x) out
+  refused_as e z name = subst (λ (y : WriteError). WriteOutcome r fits framed m out (Err y) out) name (refused e z)
+
+  pub run_refused : (r ≡ 0 → ⊥) → WriteOutcome r fits framed m out (Err (Run r)) out
   unfolding refusal
-  run_refused h = refused (rw (ne_eqb r 0 h)) h
+  run_refused h = refused_as (rw (ne_eqb r 0 h)) h (rw (ne_eqb r 0 h))
 
-  pub out_of_range : r ≡ 0 → fits ≡ false → WriteOutcome r fits framed m out (record { refusal = 7; size = 0 }) out
+  pub out_of_range : r ≡ 0 → fits ≡ false → WriteOutcome r fits framed m out (Err Range) out
   unfolding refusal
-  out_of_range e f = refused (rw (eq-eqb r 0 e, f)) (λ h. omega arith)
+  out_of_range e f = refused_as {q = 7} (rw (eq-eqb r 0 e, f)) (λ (h : ◌≡◌ {A = ℕ} 7 0). omega arith) (ap (λ (x : ℕ). error_of x 7) e)
 
-  pub no_room : {n q : ℕ} → r ≡ 0 → fits ≡ true → Like n m → q ≡ room_refusal framed n (length out) → (q ≡ 0 → ⊥)
-      → WriteOutcome r fits framed m out (record { refusal = q; size = 0 }) out
-  no_room e f l h z = refused (in_range_lem r fits framed m (length out) e f ∙ sym (room_like framed (length out) l) ∙ sym h) z
+  pub no_room : {n : ℕ} {x : WriteError} → r ≡ 0 → fits ≡ true → Like n m → Err x ≡ room_for framed n (length out)
+      → WriteOutcome r fits framed m out (Err x) out
+  no_room {n} {x} e f l h = go (eqb (room_refusal framed n (length out)) 0) refl h
+    where
+      go : (t : Bool) → eqb (room_refusal framed n (length out)) 0 ≡ t
+          → ◌≡◌ {A = Result Unit WriteError} (Err x) (pick t (Ok tt) (Err (error_of 0 (room_refusal framed n (length out)))))
+          → WriteOutcome r fits framed m out (Err x) out
+      go true z k = let w : ◌≡◌ {A = ℕ} 0 1 = cc in absurd (omega arith)
+      go false z k =
+          subst (λ (w : Result ℕ WriteError). WriteOutcome r fits framed m out w out)
+          (ap (λ (y : ℕ). Err (error_of y (room_refusal framed n (length out)))) e ∙ ap err_as_size (sym k))
+          (refused (in_range_lem r fits framed m (length out) e f ∙ sym (room_like framed (length out) l)) (eqb-false _ 0 z))
 
-  pub written : {n q a size' : ℕ} {s out' : List ℕ} → r ≡ 0 → fits ≡ true → Like n m → q ≡ room_refusal framed n (length out) → q ≡ 0
+  pub written : {n a size' : ℕ} {s out' : List ℕ} {v : Unit} → r ≡ 0 → fits ≡ true → Like n m → Ok v ≡ room_for framed n (length out)
       → Put out 0 (front framed n) s a → Put s a m out' size'
-      → WriteOutcome r fits framed m out (record { refusal = 0; size = size' }) out'
+      → WriteOutcome r fits framed m out (Ok size') out'
   unfolding size buffer
-  written {n} {q} {a} {size'} {s} {out'} e f l h z p w =
-      let none : refusal r fits framed m (length out) ≡ 0 = in_range_lem r fits framed m (length out) e f ∙ sym (room_like framed (length out) l) ∙ sym h ∙ z in
-      let x : n ≡ length m = like_exact l (room_fits framed n (length out) h z).short in
+  written {n} {a} {size'} {s} {out'} e f l h p w =
+      let none : refusal r fits framed m (length out) ≡ 0 =
+      in_range_lem r fits framed m (length out) e f ∙ sym (room_like framed (length out) l) ∙ no_refusal framed n (length out) h in
+      let x : n ≡ length m = like_exact l (room_fits framed n (length out) h).short in
       let all : Put out 0 (front framed (length m) ++ m) out' size' = rw x at (then p w) in
       let total : size' ≡ length (front framed (length m)) + length m = omega (arith, all.next, length-append (front framed (length m)) m) in
       record { answer = rw (none, total); leaves = rw none all.list }

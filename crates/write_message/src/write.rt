@@ -1,146 +1,91 @@
 // Every message is written here: the refusals in document 01's order ("its run's refusal, then 7, then 1 for a message too long,
 // then 12"), then the frame, the member around the message, and the form.
-ghost use Rattle.std.specs.Prelude.{◌≡◌, ◌<◌, true, false, length, ltb};
+ghost use Rattle.std.specs.Prelude.{◌≡◌, [], ltb};
 ghost use Rattle.base_laws.specs.Base;
-ghost use Rattle.write_forms.specs.Draft.{bad_ends, wrapped};
-ghost use Rattle.write_forms.specs.Outcome.{room_refusal};
+ghost use Rattle.write_forms.specs.Draft.{wrapped};
 ghost use Rattle.write_message.specs.Fits.{ends_fit};
 ghost use Rattle.write_message.specs.Form.{middle, form_pieces};
-ghost use Rattle.write_message.specs.Wrote.{WriteOutcome};
+ghost use Rattle.write_message.specs.Wrote.{WriteOutcome, room_for};
 
-use crate::fits::both;
 use crate::form::{Form, len_form, len_middle, put_form};
-use crate::outcome::Wrote;
-use write_lists::ends_fit;
+use crate::outcome::WriteError;
+use write_lists::Strings;
 use write_pieces::part::{MESSAGE_LIMIT, len_cover, len_front, put_cover, put_front};
 
-// The refusal of a message of n bytes: 1 where it is too long, 12 where it and its frame have no room.
-fn room_refusal(framed: bool, n: usize, room: usize) -> u8
-    ensures { result ≡ room_refusal framed n room }
+// Refuses a message of n bytes: with 1 where it is too long, with 12 where it and its frame have no room.
+fn room_for(framed: bool, n: usize, room: usize) -> Result<(), WriteError>
+    ensures { result ≡ room_for framed n room }
 {
     if MESSAGE_LIMIT < n {
-        return 1;
+        return Err(WriteError::TooLong);
     }
     if room < len_front(framed) + n {
-        return 12;
+        return Err(WriteError::NoRoom);
     }
-    0
+    Ok(())
 }
 
-// The message of which everything is asked before: `fits` holds only for a member's number of one byte and ends that fit.
+// Values in range, `fits`, as the member `member`, with a list of strings: else 7. `run` is its run's refusal, 0 for none: a number, as
+// `write_run` gives it.
 fn lay_message(
     run: u8,
     fits: bool,
     member: u64,
-    p: Form,
-    t1: &[u8],
-    t2: &[u8],
-    joined: &[u8],
-    ends: &[usize],
-    numbers: &[u64],
-    d: &[u8],
-    t4: &[u8],
-    t5: &[u8],
+    p: &Form<'_>,
+    list: &Strings<'_>,
     framed: bool,
     out: &mut [u8],
-) -> Wrote
-    requires { (fits ≡ true → member < 256) × (fits ≡ true → bad_ends (length joined.now) 0 ends.now ≡ false) }
-    ensures { WriteOutcome run fits framed (wrapped member (form_pieces p t1.now t2.now (middle p.list joined.now ends.now numbers.now d.now) t4.now t5.now)) out.old result out.new }
+) -> Result<usize, WriteError>
+    ensures { WriteOutcome run (Base.both fits (ltb member 256)) framed (wrapped member (form_pieces p.now (middle p.now list.now.joined.now list.now.ends.now))) out.old result out.new }
 {
     if run != 0 {
-        return Wrote {
-            refusal: run,
-            size: 0,
-        };
+        return Err(WriteError::Run(run));
     }
     if !fits {
-        return Wrote {
-            refusal: 7,
-            size: 0,
-        };
+        return Err(WriteError::Range);
     }
-    let inner = len_middle(p.list, joined, ends, numbers, d);
-    let n = len_form(p, inner, t1, t2, t4, t5);
-    let around = member as u8;
+    let Ok(around) = u8::try_from(member) else {
+        return Err(WriteError::Range);
+    };
+    let inner = len_middle(p, list);
+    let n = len_form(p, inner);
     let m = len_cover(around, n) + n;
-    let refusal = room_refusal(framed, m, out.len());
-    if refusal != 0 {
-        return Wrote { refusal, size: 0 };
-    }
+    room_for(framed, m, out.len())?;
     let a = put_front(out, framed, m);
     let b = put_cover(out, a, around, n);
-    let size = put_form(out, b, p, inner, t1, t2, joined, ends, numbers, d, t4, t5);
-    Wrote { refusal: 0, size }
+    Ok(put_form(out, b, p, list, inner))
 }
 
-// Values in range, `fits`, as the member `member`, with lists whose ends fit: else 7.
+// The same with the list's strings as they are lent: 7 too where their ends do not fit.
 pub fn write_message(
     run: u8,
     fits: bool,
     member: u64,
-    p: Form,
-    t1: &[u8],
-    t2: &[u8],
+    p: &Form<'_>,
     joined: &[u8],
     ends: &[usize],
-    numbers: &[u64],
-    d: &[u8],
-    t4: &[u8],
-    t5: &[u8],
     framed: bool,
     out: &mut [u8],
-) -> Wrote
-    ensures { WriteOutcome run (Base.both fits (Base.both (ltb member 256) (ends_fit joined.now ends.now))) framed (wrapped member (form_pieces p t1.now t2.now (middle p.list joined.now ends.now numbers.now d.now) t4.now t5.now)) out.old result out.new }
+) -> Result<usize, WriteError>
+    ensures { WriteOutcome run (Base.both fits (Base.both (ltb member 256) (ends_fit joined.now ends.now))) framed (wrapped member (form_pieces p.now (middle p.now joined.now ends.now))) out.old result out.new }
 {
-    let sound = both(member < 256, ends_fit(joined.len(), ends));
-    lay_message(
-        run,
-        both(fits, sound),
-        member,
-        p,
-        t1,
-        t2,
-        joined,
-        ends,
-        numbers,
-        d,
-        t4,
-        t5,
-        framed,
-        out,
-    )
+    match Strings::new(joined, ends) {
+        Some(list) => lay_message(run, fits, member, p, &list, framed, out),
+        None => lay_message(run, false, member, p, &Strings::NONE, framed, out),
+    }
 }
 
-// A message without a list.
+// A message without a list of strings.
+#[tactic(auto, unfolding(write_forms::specs::Draft::bad_ends))]
 pub fn write_plain(
     run: u8,
     fits: bool,
     member: u64,
-    p: Form,
-    t1: &[u8],
-    t2: &[u8],
-    d: &[u8],
-    t4: &[u8],
-    t5: &[u8],
+    p: &Form<'_>,
     framed: bool,
     out: &mut [u8],
-) -> Wrote
-    ensures { WriteOutcome run (Base.both fits (ltb member 256)) framed (wrapped member (form_pieces p t1.now t2.now d.now t4.now t5.now)) out.old result out.new }
+) -> Result<usize, WriteError>
+    ensures { WriteOutcome run (Base.both fits (ltb member 256)) framed (wrapped member (form_pieces p.now (middle p.now [] []))) out.old result out.new }
 {
-    lay_message(
-        run,
-        both(fits, member < 256),
-        member,
-        p,
-        t1,
-        t2,
-        &[],
-        &[],
-        &[],
-        d,
-        t4,
-        t5,
-        framed,
-        out,
-    )
+    lay_message(run, fits, member, p, &Strings::NONE, framed, out)
 }

@@ -8,9 +8,10 @@ pub fn len_varint(v: u64) -> usize
     ensures { (result ≡ length (varint v)) × (result ≤ 10) }
 {
     let mut x = v;
+    // Counted by hand, here and where it is put: what is left of the number ends the loop, and no slice is gone over.
     let mut n: usize = 1;
     while 128 <= x {
-        x = x / 128;
+        x /= 128;
         n += 1;
     }
     n
@@ -24,7 +25,7 @@ pub fn put_varint(out: &mut [u8], at: usize, v: u64) -> usize
     let mut i = at;
     while 128 <= x {
         out[i] = (x % 128 + 128) as u8;
-        x = x / 128;
+        x /= 128;
         i += 1;
     }
     out[i] = x as u8;
@@ -32,15 +33,14 @@ pub fn put_varint(out: &mut [u8], at: usize, v: u64) -> usize
 }
 
 // Is a number left out: where it is 0 and not always written.
+#[tactic(auto, unfolding(crate::specs::Parts::left_out))]
 fn left_out(v: u64, always: bool) -> bool
     ensures { result ≡ Rattle.write_pieces.specs.Parts.left_out v always }
 {
-    if always {
-        return false;
-    }
-    v == 0
+    !always && v == 0
 }
 
+#[tactic(auto, using(crate::proofs::Fields::number_out, crate::proofs::Fields::length_number))]
 pub fn len_number(f: u8, v: u64, always: bool) -> usize
     ensures { (result ≡ length (encode (number_piece always f v))) × (result ≤ 20) }
 {

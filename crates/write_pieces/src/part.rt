@@ -7,19 +7,23 @@ ghost use Rattle.write_pieces.specs.Parts.{Like, time_piece, cover, stamp};
 
 use crate::number::{len_number, len_varint, put_number, put_varint};
 use base_copy::put_raw;
+use wire_types::Time;
 
-// The length of the longest message, and the length that stands for every greater one.
+// The length of the longest message, and the length that stands for every greater one: a number and no None, so that lengths are added
+// up without a test at each sum, and tested once for all.
 pub const MESSAGE_LIMIT: usize = 2_097_152;
 
 pub const TOO_LONG: usize = 2_097_153;
 
 // The tag and the length before n bytes of a field.
+#[tactic(auto, using(crate::proofs::Fields::length_head))]
 pub fn len_head(f: u8, n: usize) -> usize
     ensures { (result ≡ length (head f n)) × (result ≤ 20) }
 {
     len_varint(f as u64 * 8 + 2) + len_varint(n as u64)
 }
 
+#[tactic(auto, using(crate::proofs::Fields::length_head))]
 pub fn put_head(out: &mut [u8], at: usize, f: u8, n: usize) -> usize
     requires { at + length (head f n) ≤ length out.old }
     ensures { Put out.old at (head f n) out.new result }
@@ -29,6 +33,7 @@ pub fn put_head(out: &mut [u8], at: usize, f: u8, n: usize) -> usize
 }
 
 // The same, or nothing where f is 0.
+#[tactic(auto, using(crate::proofs::Fields::cover_none, crate::proofs::Fields::cover_some))]
 pub fn len_cover(f: u8, n: usize) -> usize
     ensures { (result ≡ length (cover f n)) × (result ≤ 20) }
 {
@@ -51,10 +56,7 @@ pub fn put_cover(out: &mut [u8], at: usize, f: u8, n: usize) -> usize
 pub fn len_raw(d: &[u8]) -> usize
     ensures { (Like result d.now) × (result ≤ 2097153) }
 {
-    if MESSAGE_LIMIT < d.len() {
-        return TOO_LONG;
-    }
-    d.len()
+    d.len().min(TOO_LONG)
 }
 
 pub fn len_text(f: u8, d: &[u8]) -> usize
@@ -82,44 +84,43 @@ pub fn put_text(out: &mut [u8], at: usize, f: u8, d: &[u8]) -> usize
 
 // ---- TimeSpecs
 
-fn len_stamp(seconds: u64, nanos: u64) -> usize
-    ensures { (result ≡ length (time (stamp seconds nanos))) × (result ≤ 40) }
+#[tactic(auto, using(crate::proofs::Fields::length_stamp))]
+fn len_stamp(t: Time) -> usize
+    ensures { (result ≡ length (time (stamp t.seconds t.nanos))) × (result ≤ 40) }
 {
-    len_number(1, seconds, false) + len_number(2, nanos, false)
+    len_number(1, t.seconds, false) + len_number(2, t.nanos, false)
 }
 
-pub fn len_time(f: u8, seconds: u64, nanos: u64) -> usize
-    ensures { (result ≡ length (encode (time_piece f (stamp seconds nanos)))) × (result ≤ 60) }
+pub fn len_time(f: u8, t: Time) -> usize
+    ensures { (result ≡ length (encode (time_piece f (stamp t.seconds t.nanos)))) × (result ≤ 60) }
 {
     if f == 0 {
         return 0;
     }
-    let n = len_stamp(seconds, nanos);
+    let n = len_stamp(t);
     len_head(f, n) + n
 }
 
-pub fn put_time(out: &mut [u8], at: usize, f: u8, seconds: u64, nanos: u64) -> usize
-    requires { at + length (encode (time_piece f (stamp seconds nanos))) ≤ length out.old }
-    ensures { Put out.old at (encode (time_piece f (stamp seconds nanos))) out.new result }
+pub fn put_time(out: &mut [u8], at: usize, f: u8, t: Time) -> usize
+    requires { at + length (encode (time_piece f (stamp t.seconds t.nanos))) ≤ length out.old }
+    ensures { Put out.old at (encode (time_piece f (stamp t.seconds t.nanos))) out.new result }
 {
     if f == 0 {
         return at;
     }
-    let a = put_head(out, at, f, len_stamp(seconds, nanos));
-    let b = put_number(out, a, 1, seconds, false);
-    put_number(out, b, 2, nanos, false)
+    let a = put_head(out, at, f, len_stamp(t));
+    let b = put_number(out, a, 1, t.seconds, false);
+    put_number(out, b, 2, t.nanos, false)
 }
 
 // ---- frames
 
 // How many bytes stand before a frame's message.
+#[tactic(auto, unfolding(write_forms::specs::Pieces::front))]
 pub fn len_front(framed: bool) -> usize
     ensures { ((n : ℕ) → result ≡ length (front framed n)) × (result ≤ 4) }
 {
-    if framed {
-        return 4;
-    }
-    0
+    if framed { 4 } else { 0 }
 }
 
 // The four bytes before a frame's message of n bytes, most significant first.
@@ -128,12 +129,8 @@ pub fn put_front(out: &mut [u8], framed: bool, n: usize) -> usize
     ensures { Put out.old 0 (front framed n) out.new result }
 {
     if framed {
-        let four = [
-            (n / 16_777_216 % 256) as u8,
-            (n / 65_536 % 256) as u8,
-            (n / 256 % 256) as u8,
-            (n % 256) as u8,
-        ];
+        // The low four bytes: that a message is shorter than 4 GiB is not asked here.
+        let four = ((n % 4_294_967_296) as u32).to_be_bytes();
         return put_raw(out, 0, &four);
     }
     0

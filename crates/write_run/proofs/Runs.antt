@@ -10,38 +10,39 @@ use borrow.Author.Tests.{lt-ltb, le-ltb}
 use Rattle.base_laws.specs.Base.{part}
 use Rattle.base_laws.proofs.Order.{lt_or_le, picked}
 use Rattle.wire_schema.specs.Schema.{InfoMessage}
-use Rattle.wire_value.specs.Field.{payload_at}
+use Rattle.std.specs.Prelude.{Result, Ok, Err}
+use Rattle.wire_types.specs.declared.Refusal.{Refusal}
+use Rattle.wire_types.specs.declared.Refused.{Refused}
+use Rattle.wire_types.specs.declared.Span.{Span}
+use Rattle.wire_varint.specs.Varint.{varint_at}
+use Rattle.wire_value.specs.Field.{part_of, as_part, payload_at}
 use Rattle.wire_varint.specs.Tag.{tag_at}
 use Rattle.wire_check_field.specs.Check.{before, check_of}
 use Rattle.wire_varint.specs.declared.tag.Tag.{Tag}
-use Rattle.wire_varint.specs.declared.tag.Tag.TheVariants as tag
-use Rattle.wire_value.specs.declared.Payload.{Payload}
-use Rattle.wire_value.specs.declared.Payload.TheVariants as payload
-use Rattle.wire_check_field.specs.declared.Checked.{Checked}
-use Rattle.wire_check_field.specs.declared.Checked.TheVariants as checked
 use Rattle.wire_fields.proofs.Reach.{TagRead, tag_at_lem, PayloadRead, payload_at_lem}
 use Rattle.write_forms.specs.Run.{entry_of, entry_at, on_entry, run_from, run_at}
 
 -- ---- how far an entry reaches
 
-abbrev pub Reached : List ℕ → ℕ → Payload → Type 0
-Reached s at (payload.Number v n) = (at < n) × (n ≤ length s)
-Reached s at (payload.Fixed n) = (at < n) × (n ≤ length s)
-Reached s at (payload.Part a e) = (at < a) × (a ≤ e) × (e ≤ length s)
-Reached s at (payload.Refused r p) = Unit
+abbrev pub Reached : List ℕ → ℕ → Result Span Refused → Type 0
+Reached s at (Ok p) = (at < p.start) × (p.start ≤ p.end) × (p.end ≤ length s)
+Reached s at (Err r) = Unit
 
-from_payload : (s : List ℕ) (at x : ℕ) → at < x → (p : Payload) → PayloadRead s x p → Reached s at p
-from_payload s at x l (payload.Number v n) h = (omega arith, h.1)
-from_payload s at x l (payload.Fixed n) h = (omega arith, h.1)
-from_payload s at x l (payload.Part a e) h = (omega arith, h.1, h.2)
-from_payload s at x l (payload.Refused r p) h = tt
+from_payload : (s : List ℕ) (at x : ℕ) → at < x → (p : Result Span Refused) → PayloadRead s x (as_part p) → Reached s at p
+unfolding as_part
+from_payload s at x l (Ok p) h = (omega arith, h.1, h.2)
+from_payload s at x l (Err r) h = tt
 
-from_tag : (f : ℕ) (s : List ℕ) (at : ℕ) → at ≤ length s → (t : Tag) → TagRead s at t → Reached s at (entry_of f s at t)
+part_read : (s : List ℕ) (at x : ℕ) → x ≤ length s → at ≤ length s → PayloadRead s x (as_part (part_of s x (varint_at s x)))
+unfolding payload_at
+part_read s at x h l = payload_at_lem s x h at 2 l
+
+from_tag : (f : ℕ) (s : List ℕ) (at : ℕ) → at ≤ length s → (t : Result Tag Refusal) → TagRead s at t → Reached s at (entry_of f s at t)
 unfolding entry_of
-from_tag f s at l (tag.Refused r) h = tt
-from_tag f s at l (tag.Field n w x) h =
-    picked (Reached s at) (eqb n f) _ _
-    (λ _. picked (Reached s at) (eqb w 2) _ _ (λ _. from_payload s at x h.0 (payload_at s at x w) (payload_at_lem s x h.1 at w l)) (λ _. tt))
+from_tag f s at l (Err r) h = tt
+from_tag f s at l (Ok t) h =
+    picked (Reached s at) (eqb t.number f) _ _
+    (λ _. picked (Reached s at) (eqb t.wire 2) _ _ (λ _. from_payload s at t.next h.0 _ (part_read s at t.next h.1 l)) (λ _. tt))
     (λ _. tt)
 
 pub reached : (f : ℕ) (s : List ℕ) (at : ℕ) → at ≤ length s → Reached s at (entry_at f s at)
@@ -51,17 +52,15 @@ reached f s at l = from_tag f s at l (tag_at s at) (tag_at_lem s at)
 -- ---- how the check goes on
 
 -- two checks that agree where an entry leads agree on it
-same_entry : (go go' : ℕ → Checked) (s : List ℕ) (at : ℕ) → ((n : ℕ) → at < n → n ≤ length s → go n ≡ go' n)
-    → (p : Payload) → Reached s at p → on_entry go s p ≡ on_entry go' s p
+same_entry : (go go' : ℕ → Result Unit Refused) (s : List ℕ) (at : ℕ) → ((n : ℕ) → at < n → n ≤ length s → go n ≡ go' n)
+    → (p : Result Span Refused) → Reached s at p → on_entry go s p ≡ on_entry go' s p
 unfolding on_entry
-same_entry go go' s at e (payload.Number v n) h = e n h.0 h.1
-same_entry go go' s at e (payload.Fixed n) h = e n h.0 h.1
-same_entry go go' s at e (payload.Part a b) h =
-    ap (λ (x : Checked). before a (check_of InfoMessage (part s a b)) x) (e b (omega arith) h.2)
-same_entry go go' s at e (payload.Refused r p) h = refl
+same_entry go go' s at e (Ok p) h =
+    ap (λ (x : Result Unit Refused). before p.start (check_of InfoMessage (part s p.start p.end)) x) (e p.end (omega arith) h.2)
+same_entry go go' s at e (Err r) h = refl
 
 module _ (f : ℕ) (s : List ℕ) where
-  done : (k at : ℕ) → length s ≤ at → run_from k f s at ≡ checked.Fine
+  done : (k at : ℕ) → length s ≤ at → run_from k f s at ≡ Ok tt
   unfolding run_from
   done zero at h = refl
   done (suc k) at h = simp (le-ltb _ _ h)
@@ -90,6 +89,6 @@ module _ (f : ℕ) (s : List ℕ) where
       goes (length s - at) at i
       ∙ same_entry (run_from (length s - at) f s) (run_at f s) s at (λ n lt le. enough (length s - at) (suc (length s - n)) n (omega arith) (omega arith)) (entry_at f s at) (reached f s at (omega arith))
 
-  pub run_end : (at : ℕ) → length s ≤ at → run_at f s at ≡ checked.Fine
+  pub run_end : (at : ℕ) → length s ≤ at → run_at f s at ≡ Ok tt
   unfolding run_at
   run_end at h = done (suc (length s - at)) at h

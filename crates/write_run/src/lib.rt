@@ -5,75 +5,63 @@ ghost use Rattle.std.specs.Prelude.{◌≡◌};
 ghost use Rattle.write_forms.specs.Run.{entry_at, run_at, run_refusal};
 
 use wire_check::check;
-use wire_check_field::Checked;
 use wire_range::limits::entries_fit;
 use wire_schema::INFO_MESSAGE;
-use wire_value::{Payload, payload_at};
+use wire_types::{Refusal, Refused, Span};
+use wire_value::part_at;
 use wire_varint::tag::{Tag, tag_at};
 
-// The entry at a place: another field is refused with 4, another wire type with 5.
-fn entry_at(field: u64, s: &[u8], at: usize) -> Payload
+// Where the bytes of the entry at a place are: another field is refused with 4, another wire type with 5.
+#[tactic(auto, using(base_laws::proofs::Tests::tests), unfolding(write_forms::specs::Run::entry_at, write_forms::specs::Run::entry_of))]
+fn entry_at(field: u64, s: &[u8], at: usize) -> Result<Span, Refused>
     ensures { result ≡ entry_at field s.now at }
 {
     match tag_at(s, at) {
-        Tag::Refused { refusal } => Payload::Refused { refusal, place: at },
-        Tag::Field { number, wire, next } => {
+        Err(refusal) => Err(Refused { refusal, place: at }),
+        Ok(Tag { number, wire, next }) => {
             if number == field {
                 if wire == 2 {
-                    return payload_at(s, at, next, wire);
+                    return part_at(s, next);
                 }
-                return Payload::Refused {
-                    refusal: 5,
+                return Err(Refused {
+                    refusal: Refusal::WireType,
                     place: at,
-                };
+                });
             }
-            Payload::Refused {
-                refusal: 4,
+            Err(Refused {
+                refusal: Refusal::Tag,
                 place: at,
-            }
+            })
         }
     }
 }
 
-// The leftmost refusal of 2 to 5 in a run.
-fn run_check(field: u64, s: &[u8]) -> Checked
+// The leftmost refusal of 2 to 5 in a run. The loop goes from entry to entry, and counts no index.
+fn run_check(field: u64, s: &[u8]) -> Result<(), Refused>
     ensures { result ≡ run_at field s.now 0 }
 {
     let mut at: usize = 0;
     while at < s.len() {
-        match entry_at(field, s, at) {
-            Payload::Number { value: _, next } => {
-                at = next;
+        let Span { start, end } = entry_at(field, s, at)?;
+        match check(INFO_MESSAGE, &s[start..end]) {
+            Ok(()) => {
+                at = end;
             }
-            Payload::Fixed { next } => {
-                at = next;
-            }
-            Payload::Part { start, end } => match check(INFO_MESSAGE, &s[start..end]) {
-                Checked::Fine => {
-                    at = end;
-                }
-                Checked::Refused { refusal, place } => {
-                    return Checked::Refused {
-                        refusal,
-                        place: start + place,
-                    };
-                }
-            },
-            Payload::Refused { refusal, place } => {
-                return Checked::Refused { refusal, place };
+            Err(refused) => {
+                return Err(refused.within(start));
             }
         }
     }
-    Checked::Fine
+    Ok(())
 }
 
-// The refusal of a run, 0 for none: 2 to 5, then 7 where an entry is out of range.
+// The refusal of a run, 0 for none: 2 to 5, then 7 where an entry is out of range. It is a number, as the writers pass it on.
 pub fn run_refusal(field: u64, s: &[u8]) -> u8
     ensures { result ≡ run_refusal field s.now }
 {
     match run_check(field, s) {
-        Checked::Refused { refusal, place: _ } => refusal,
-        Checked::Fine => {
+        Err(refused) => u8::from(refused.refusal),
+        Ok(()) => {
             if entries_fit(s, field) {
                 return 0;
             }

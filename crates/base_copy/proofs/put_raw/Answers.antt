@@ -1,7 +1,8 @@
--- A copy that fits is Puts.put_copy, over copy_into's contract.
-use borrow.Author.Rules.{rules}
-use Rattle.base_copy.proofs.Puts.{put_copy}
+-- A write to a part is a splice: Splice.part_splice.
+use native.Mathlib.Omega.{arith}
+use Rattle.base_laws.proofs.Splice.{part_splice}
 use Rattle.base_copy.proofs.put_raw.Goals as goal
 
 pub returns : goal.returns
-returns c = put_copy (search rules) c.copy_into.ensures.area
+returns c =
+    let a = c.args in record { list = part_splice a.out.now a.at _ _ a.d.now c.copy_from_slice.ensures.after (omega arith); next = omega arith; fits = omega arith }

@@ -2,14 +2,11 @@
 use mathlib.Core.Path.{subst}
 use native.Mathlib.Omega.{arith}
 use Rattle.conf_lines.specs.Scan.{Stepped}
-use Rattle.conf_content.proofs.Walks.{pass_starts, pass_on, pass_counts, pass_ends}
+use Rattle.conf_content.proofs.Walks.{pass_starts, pass_on, pass_counts}
 use Rattle.conf_content.proofs.measure_line.Goals as goal
 
 pub loop-b-init : goal.loop-b-init
-loop-b-init c = let a = c.args in pass_starts a.text.now a.c c.requires
-
-pub next_byte-requires : goal.next_byte-requires
-next_byte-requires c = c.loop-b.invariant.onward.sound
+loop-b-init c = let a = c.args in pass_starts a.text.now a.c
 
 pub see_byte-m-requires : goal.see_byte-m-requires
 see_byte-m-requires c =
@@ -20,12 +17,6 @@ see_byte-m-requires c =
     let n = pass_counts s a.c c.loop-b.m w c.loop-b.invariant _ _ g in
     omega (arith, n, g.inside)
 
-pub loop-b-smaller : goal.loop-b-smaller
-loop-b-smaller c =
-    let s = c.args.text.now in
-    let g = subst (Stepped s c.loop-b.w) c.in-Byte.is c.next_byte.ensures in
-    omega (arith, g.moved, g.inside)
-
 pub loop-b-preserved : goal.loop-b-preserved
 loop-b-preserved c =
     let a = c.args in
@@ -33,10 +24,3 @@ loop-b-preserved c =
     let w = c.loop-b.w in
     pass_on s a.c c.loop-b.m w c.loop-b.invariant _ _ _
     (subst (Stepped s w) c.in-Byte.is c.next_byte.ensures) c.see_byte-m.ensures
-
-pub returns-in-End : goal.returns-in-End
-returns-in-End c =
-    let a = c.args in
-    let s = a.text.now in
-    let w = c.loop-b.w in
-    pass_ends s a.c c.loop-b.m w c.loop-b.invariant _ (subst (Stepped s w) c.in-End.is c.next_byte.ensures)

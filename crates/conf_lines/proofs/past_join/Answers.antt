@@ -6,4 +6,4 @@ pub returns : goal.returns
 returns c =
     let a = c.args in
     let rest = c.past_blanks-at in
-    joins a.text.now a.c _ _ c.past_line-next.ensures rest.ensures.rest rest.ensures.ahead
+    joins a.text.now a.c _ _ c.past_line-next.ensures rest.ensures.rest rest.ensures.ahead _

@@ -7,10 +7,7 @@ use Rattle.conf_lines.proofs.Cursors.{same_self, same_then, stepped_then}
 use Rattle.conf_lines.proofs.step_past_joins.Goals as goal
 
 pub loop-step-init : goal.loop-step-init
-loop-step-init c = let a = c.args in same_self a.text.now a.c c.requires
-
-pub pass_byte-requires : goal.pass_byte-requires
-pass_byte-requires c = c.loop-step.invariant.onward.sound
+loop-step-init c = let a = c.args in same_self a.text.now a.c
 
 pub returns-in-Stepped : goal.returns-in-Stepped
 returns-in-Stepped c =

@@ -1,5 +1,11 @@
--- The length, then the name: Entries.put_counted.
+-- The length, then the name: Entries.put_counted, at the bytes that `name` answers.
+use mathlib.Core.Path.{refl, sym, subst}
+use Prim.Native.Nat.{◌+◌, ◌≤◌}
+use lib.ListN.{length}
+use Rattle.base_copy.specs.Put.{Put}
+use Rattle.conf_lines.specs.Lines.{Bytes}
 use Rattle.conf_typed.specs.Typed.{section_name}
+use Rattle.conf_list.specs.Listing.{counted}
 use Rattle.conf_list.proofs.Entries.{length_room, part_room, put_counted}
 use Rattle.conf_list.proofs.put_section.Goals as goal
 
@@ -8,13 +14,16 @@ put_four-start-requires c =
     let a = c.args in
     length_room a.out.now a.at (section_name a.section) c.requires
 
-pub put_name-requires : goal.put_name-requires
-put_name-requires c =
+pub put_raw-requires : goal.put_raw-requires
+put_raw-requires c =
     let a = c.args in
-    part_room a.out.now a.at (section_name a.section) c.section_length.ensures.0 c.put_four-start.ensures c.requires
+    let name = c.name-name in
+    part_room a.out.now a.at name.result.now refl c.put_four-start.ensures
+    (subst (λ (bs : Bytes). a.at + length (counted bs) ≤ length a.out.now) (sym name.ensures) c.requires)
 
 pub returns : goal.returns
 returns c =
     let a = c.args in
-    put_counted a.out.now a.at (section_name a.section) c.section_length.ensures.0 c.put_four-start.ensures
-    c.put_name.ensures
+    let name = c.name-name in
+    subst (λ (bs : Bytes). Put a.out.now a.at (counted bs) c.put_raw.new.out c.put_raw.result) name.ensures
+    (put_counted a.out.now a.at name.result.now refl c.put_four-start.ensures c.put_raw.ensures)

@@ -14,16 +14,16 @@ pub loop-w-init : goal.loop-w-init
 loop-w-init c =
     let s = c.args.text.now in
     let out = c.args.out.now in
-    let all = listing (listed (statements_of s)) in (
-      omega arith,
-      subst Good (sym (starts s)) c.requires.good,
-      subst (λ (ss : List Statement). Filling out 0 all out 0 (listing (listed ss))) (sym (starts s)) (fill_start out 0 all),
+    let all = listing (listed (statements_of s)) in
+    let e = starts s c.at.result c.at.ensures.place c.at.ensures.feeds in (
+      subst Good (sym e) c.requires.good,
+      subst (λ (ss : List Statement). Filling out 0 all out 0 (listing (listed ss))) (sym e) (fill_start out 0 all),
     )
 
 pub write_line-w-requires : goal.write_line-w-requires
 write_line-w-requires c =
     let v = c.loop-w.invariant in
-    record { cursor = (v.0, c.loop-w-test.true); good = v.1; room = omega (arith, v.2.next, v.2.size, c.requires.room) }
+    record { cursor = c.loop-w-test.true; good = v.0; room = omega (arith, v.1.next, v.1.size, c.requires.room) }
 
 pub loop-w-smaller : goal.loop-w-smaller
 loop-w-smaller c = omega (arith, c.write_line-w.ensures.moved, c.loop-w-test.true)
@@ -31,14 +31,14 @@ loop-w-smaller c = omega (arith, c.write_line-w.ensures.moved, c.loop-w-test.tru
 pub loop-w-preserved : goal.loop-w-preserved
 loop-w-preserved c =
     let w = c.write_line-w.ensures in
-    (w.sound, w.good, fill_more c.loop-w.invariant.2 _ w.rest w.put)
+    (w.good, fill_more c.loop-w.invariant.1 _ w.rest w.put)
 
 pub shape_of-out : goal.shape_of-out
-shape_of-out c = omega (arith, c.loop-w.invariant.2.size)
+shape_of-out c = omega (arith, c.loop-w.invariant.1.size)
 
 pub returns : goal.returns
 unfolding listed listing
 returns c =
     let s = c.args.text.now in
     let w = c.loop-w.w in
-    fill_end c.loop-w.invariant.2 (ap (λ (ss : List Statement). listing (listed ss)) (ends s w.cursor w.section c.loop-w-test.false)) (omega (arith, c.requires.room))
+    fill_end c.loop-w.invariant.1 (ap (λ (ss : List Statement). listing (listed ss)) (ends s w.cursor w.section c.loop-w-test.false)) (omega (arith, c.requires.room))

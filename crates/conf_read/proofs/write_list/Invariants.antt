@@ -3,7 +3,6 @@
 use Prim.Native.Nat.{◌-◌}
 use lib.ListN.{length}
 use Rattle.base_copy.proofs.Puts.{Filling}
-use Rattle.conf_lines.specs.Scan.{Sound}
 use Rattle.conf_list.specs.Listing.{listing}
 use Rattle.conf_read.specs.Config.{statements_of}
 use Rattle.conf_read.specs.Passes.{ahead, Good, listed}
@@ -11,7 +10,7 @@ use Rattle.conf_read.proofs.write_list.Given as goal
 
 abbrev pub invariant-loop-w : goal.invariant-loop-w
 invariant-loop-w l =
-    Sound l.w.cursor × Good (ahead l.text l.w.cursor l.w.section)
+    Good (ahead l.text l.w.cursor l.w.section)
     × Filling l.initial.out 0 (listing (listed (statements_of l.text))) l.out l.w.at (listing (listed (ahead l.text l.w.cursor l.w.section)))
 
 abbrev pub decreases-loop-w : goal.decreases-loop-w

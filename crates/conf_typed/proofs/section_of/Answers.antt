@@ -1,66 +1,24 @@
--- Hands what `is_word` returns of each name to the definition `section_of`, in its order.
-use mathlib.Core.Path.{sym, ◌∙◌}
-use Rattle.conf_typed.specs.Typed.{section_of}
+-- The loop keeps: the sections from the index on decide. A section is Sections.section_here or section_behind, the end no_section.
+use mathlib.Core.Path.{sym, ap, ◌∙◌}
+use Rattle.conf_lines.specs.Span.{spanned}
+use Rattle.conf_typed.specs.Typed.{same, lower}
+use Rattle.conf_typed.proofs.Sections.{named, section_here, section_behind, no_section}
 use Rattle.conf_typed.proofs.section_of.Goals as goal
 
+pub loop-section-init : goal.loop-section-init
+loop-section-init c = named _
+
+pub loop-section-preserved : goal.loop-section-preserved
+loop-section-preserved c =
+    let n = lower (spanned c.args.text.now c.args.name) in
+    let e = ap (same n) (sym c.name.ensures) ∙ sym c.is_word.ensures ∙ c.if-is_word.false in
+    section_behind n _ _ _ c.loop-section-test.true e ∙ c.loop-section.invariant
+
 pub returns-then-is_word : goal.returns-then-is_word
-unfolding section_of
 returns-then-is_word c =
-    let t1 = sym c.is_word.ensures ∙ c.if-is_word.true in
-    rw t1
-
-pub returns-then-is_word-2 : goal.returns-then-is_word-2
-unfolding section_of
-returns-then-is_word-2 c =
-    let t2 = sym c.is_word-2.ensures ∙ c.if-is_word-2.true in
-    let t1 = sym c.is_word.ensures ∙ c.if-is_word.false in
-    rw (t1, t2)
-
-pub returns-then-is_word-3 : goal.returns-then-is_word-3
-unfolding section_of
-returns-then-is_word-3 c =
-    let t3 = sym c.is_word-3.ensures ∙ c.if-is_word-3.true in
-    let t2 = sym c.is_word-2.ensures ∙ c.if-is_word-2.false in
-    let t1 = sym c.is_word.ensures ∙ c.if-is_word.false in
-    rw (t1, t2, t3)
-
-pub returns-then-is_word-4 : goal.returns-then-is_word-4
-unfolding section_of
-returns-then-is_word-4 c =
-    let t4 = sym c.is_word-4.ensures ∙ c.if-is_word-4.true in
-    let t3 = sym c.is_word-3.ensures ∙ c.if-is_word-3.false in
-    let t2 = sym c.is_word-2.ensures ∙ c.if-is_word-2.false in
-    let t1 = sym c.is_word.ensures ∙ c.if-is_word.false in
-    rw (t1, t2, t3, t4)
-
-pub returns-then-is_word-5 : goal.returns-then-is_word-5
-unfolding section_of
-returns-then-is_word-5 c =
-    let t5 = sym c.is_word-5.ensures ∙ c.if-is_word-5.true in
-    let t4 = sym c.is_word-4.ensures ∙ c.if-is_word-4.false in
-    let t3 = sym c.is_word-3.ensures ∙ c.if-is_word-3.false in
-    let t2 = sym c.is_word-2.ensures ∙ c.if-is_word-2.false in
-    let t1 = sym c.is_word.ensures ∙ c.if-is_word.false in
-    rw (t1, t2, t3, t4, t5)
-
-pub returns-then-is_word-6 : goal.returns-then-is_word-6
-unfolding section_of
-returns-then-is_word-6 c =
-    let t6 = sym c.is_word-6.ensures ∙ c.if-is_word-6.true in
-    let t5 = sym c.is_word-5.ensures ∙ c.if-is_word-5.false in
-    let t4 = sym c.is_word-4.ensures ∙ c.if-is_word-4.false in
-    let t3 = sym c.is_word-3.ensures ∙ c.if-is_word-3.false in
-    let t2 = sym c.is_word-2.ensures ∙ c.if-is_word-2.false in
-    let t1 = sym c.is_word.ensures ∙ c.if-is_word.false in
-    rw (t1, t2, t3, t4, t5, t6)
+    let n = lower (spanned c.args.text.now c.args.name) in
+    let e = ap (same n) (sym c.name.ensures) ∙ sym c.is_word.ensures ∙ c.if-is_word.true in
+    section_here n _ _ _ c.loop-section-test.true e ∙ c.loop-section.invariant
 
 pub returns : goal.returns
-unfolding section_of
-returns c =
-    let t6 = sym c.is_word-6.ensures ∙ c.if-is_word-6.false in
-    let t5 = sym c.is_word-5.ensures ∙ c.if-is_word-5.false in
-    let t4 = sym c.is_word-4.ensures ∙ c.if-is_word-4.false in
-    let t3 = sym c.is_word-3.ensures ∙ c.if-is_word-3.false in
-    let t2 = sym c.is_word-2.ensures ∙ c.if-is_word-2.false in
-    let t1 = sym c.is_word.ensures ∙ c.if-is_word.false in
-    rw (t1, t2, t3, t4, t5, t6)
+returns c = no_section _ _ _ c.loop-section-test.false ∙ c.loop-section.invariant

@@ -1,6 +1,8 @@
 -- Each arm is a case of the definition `typed_of`; in `iolog` what `is_word` returns of `maxseq` decides.
-use mathlib.Core.Path.{sym, ◌∙◌}
-use Rattle.conf_typed.specs.Typed.{typed_of}
+use mathlib.Core.Path.{sym, ap, ◌∙◌}
+use Rattle.std.proofs.lemmas.Result.{err_from_is_err_and}
+use Rattle.conf_typed.specs.declared.Typed.TheVariants.{Maxseq}
+use Rattle.conf_typed.specs.Typed.{read_as, typed_of}
 use Rattle.conf_typed.proofs.typed_of.Goals as goal
 
 pub returns-then-is_word : goal.returns-then-is_word
@@ -8,15 +10,15 @@ unfolding typed_of
 returns-then-is_word c =
     let section = c.in-Iolog.is in
     let t = sym c.is_word.ensures ∙ c.if-is_word.true in
-    c.maxseq_of.ensures ∙ sym (rw (section, t))
+    rw (section, t) (ap (read_as Maxseq) (sym c.in_ok-maxseq_of-in-Iolog.was ∙ c.maxseq_of.ensures))
 
-pub returns-in-Server : goal.returns-in-Server
+pub returns-in_err-maxseq_of-in-Iolog : goal.returns-in_err-maxseq_of-in-Iolog
 unfolding typed_of
-returns-in-Server c = c.link_typed.ensures ∙ sym (rw c.in-Server.is)
-
-pub returns-in-Relay : goal.returns-in-Relay
-unfolding typed_of
-returns-in-Relay c = c.link_typed-in-Relay.ensures ∙ sym (rw c.in-Relay.is)
+returns-in_err-maxseq_of-in-Iolog c =
+    let section = c.in-Iolog.is in
+    let t = sym c.is_word.ensures ∙ c.if-is_word.true in
+    let p = err_from_is_err_and c.from_residual.result c.from_residual.ensures.1 in
+    rw (section, t, p.1) (ap (read_as Maxseq) (sym c.in_err-maxseq_of-in-Iolog.was ∙ c.maxseq_of.ensures))
 
 pub returns-else-is_word : goal.returns-else-is_word
 unfolding typed_of
@@ -24,19 +26,3 @@ returns-else-is_word c =
     let section = c.in-Iolog.is in
     let t = sym c.is_word.ensures ∙ c.if-is_word.false in
     rw (section, t)
-
-pub returns-in-Eventlog : goal.returns-in-Eventlog
-unfolding typed_of
-returns-in-Eventlog c = rw c.in-Eventlog.is
-
-pub returns-in-Syslog : goal.returns-in-Syslog
-unfolding typed_of
-returns-in-Syslog c = rw c.in-Syslog.is
-
-pub returns-in-Logfile : goal.returns-in-Logfile
-unfolding typed_of
-returns-in-Logfile c = rw c.in-Logfile.is
-
-pub returns-in-Unknown : goal.returns-in-Unknown
-unfolding typed_of
-returns-in-Unknown c = rw c.in-Unknown.is

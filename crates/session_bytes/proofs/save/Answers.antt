@@ -13,7 +13,7 @@ pub returns-then-slice-eq40 : goal.returns-then-slice-eq40
 returns-then-slice-eq40 c =
     let a = c.args in
     let h = c.if-slice-eq40.true in
-    let laid = c.lay_five.ensures in record { answer = laid.room ∙ le-leb 40 (length a.slice.now) (omega arith) ∙ sym (eq-eqb (length a.slice.now) 40 h); slice = wrote a.se a.slice.now h _ _ _ _ c.state_number.ensures c.mark_number.ensures c.mark_point.ensures laid.buffer }
+    let laid = c.lay.ensures in record { answer = laid.room ∙ le-leb 40 (length a.slice.now) (omega arith) ∙ sym (eq-eqb (length a.slice.now) 40 h); slice = wrote a.se a.slice.now h _ _ _ _ c.state_number.ensures c.mark_number.ensures c.mark_point.ensures laid.buffer }
 
 pub returns : goal.returns
 returns c = let a = c.args in record { answer = sym (ne_eqb _ 40 c.if-slice-eq40.false); slice = unwritten a.se a.slice.now c.if-slice-eq40.false }

@@ -4,21 +4,21 @@ use borrow.Author.Tests.{ne_eqb}
 use Rattle.session_entries.specs.Required.{entries_refusal}
 use Rattle.session_entries.proofs.entries_refusal.Goals as goal
 
+pub returns-then-not-types_fit : goal.returns-then-not-types_fit
+unfolding entries_refusal
+returns-then-not-types_fit c = let t = sym c.if-not-types_fit.ensures in record { refusal = rw t; key = rw t }
+
 pub returns-then-k-eq4 : goal.returns-then-k-eq4
 unfolding entries_refusal
 returns-then-k-eq4 c =
-    let t = sym c.types_fit.ensures ∙ c.if-types_fit.true in
+    let t = sym c.if-not-types_fit.ensures in
     let k = sym c.missing_key-k.ensures ∙ c.if-k-eq4.true in
     record { refusal = rw (t, k); key = rw (t, k) }
 
-pub returns-then-types_fit : goal.returns-then-types_fit
+pub returns : goal.returns
 unfolding entries_refusal
-returns-then-types_fit c =
-    let t = sym c.types_fit.ensures ∙ c.if-types_fit.true in
+returns c =
+    let t = sym c.if-not-types_fit.ensures in
     let m = c.missing_key-k.ensures in
     let k = ne_eqb _ 4 c.if-k-eq4.false in
     record { refusal = rw (t, ← m, k); key = rw (t, ← m, k) }
-
-pub returns : goal.returns
-unfolding entries_refusal
-returns c = let t = sym c.types_fit.ensures ∙ c.if-types_fit.false in record { refusal = rw t; key = rw t }

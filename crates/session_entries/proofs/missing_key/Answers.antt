@@ -19,27 +19,27 @@ loop-start-init c = let a = c.args in ap (has c.keys.k) (all_entries a.field a.s
 pub slice_bounds-has_key-count : goal.slice_bounds-has_key-count
 slice_bounds-has_key-count c =
     let a = c.args in
-    let found = sym c.next_part.ensures ∙ c.in-Part.is in
+    let found = sym c.next_part.ensures ∙ c.in-Some.is in
     (found_in_bounds a.field a.s.now c.loop-start.at found).1
 
 pub slice_bounds-has_key-start : goal.slice_bounds-has_key-start
 slice_bounds-has_key-start c =
     let a = c.args in
-    let found = sym c.next_part.ensures ∙ c.in-Part.is in
+    let found = sym c.next_part.ensures ∙ c.in-Some.is in
     let h = found_in_bounds a.field a.s.now c.loop-start.at found in
     omega arith
 
 pub slice_bounds-has_key-end : goal.slice_bounds-has_key-end
 slice_bounds-has_key-end c =
     let a = c.args in
-    let found = sym c.next_part.ensures ∙ c.in-Part.is in
+    let found = sym c.next_part.ensures ∙ c.in-Some.is in
     let h = found_in_bounds a.field a.s.now c.loop-start.at found in
     omega arith
 
 pub loop-start-smaller : goal.loop-start-smaller
 loop-start-smaller c =
     let a = c.args in
-    let found = sym c.next_part.ensures ∙ c.in-Part.is in
+    let found = sym c.next_part.ensures ∙ c.in-Some.is in
     let h = found_in_bounds a.field a.s.now c.loop-start.at found in
     omega arith
 
@@ -47,7 +47,7 @@ pub loop-start-preserved : goal.loop-start-preserved
 unfolding has
 loop-start-preserved c =
     let a = c.args in
-    let found = sym c.next_part.ensures ∙ c.in-Part.is in
+    let found = sym c.next_part.ensures ∙ c.in-Some.is in
     let another = sym c.has_key.ensures ∙ c.if-has_key.false in
     rw (entries_next a.field a.s.now c.loop-start.at found, another) at c.loop-start.invariant
 
@@ -55,7 +55,7 @@ pub keys-preserved : goal.keys-preserved
 unfolding has
 keys-preserved c =
     let a = c.args in
-    let found = sym c.next_part.ensures ∙ c.in-Part.is in
+    let found = sym c.next_part.ensures ∙ c.in-Some.is in
     let es = entries a.field (items a.s.now) in
     let k = c.keys.k in
     let its-key = sym c.has_key.ensures ∙ c.if-has_key.true in
@@ -66,12 +66,12 @@ pub returns-after-keys : goal.returns-after-keys
 returns-after-keys c = let a = c.args in
     sym (all_found (entries a.field (items a.s.now)) c.keys.k (omega arith)) ∙ c.keys.invariant.1
 
-pub returns-in-Nothing : goal.returns-in-Nothing
+pub returns-in_default : goal.returns-in_default
 unfolding has
-returns-in-Nothing c =
+returns-in_default c =
     let a = c.args in
     let es = entries a.field (items a.s.now) in
     let k = c.keys.k in
-    let none = sym c.next_part.ensures ∙ c.in-Nothing.is in
+    let none = sym c.next_part.ensures ∙ c.in_default.is in
     let gone : has k es ≡ false = sym (rw (entries_none a.field a.s.now c.loop-start.at none) at c.loop-start.invariant) in
     sym (not_found es k {n = 3 - k} gone (omega arith)) ∙ c.keys.invariant.1

@@ -1,25 +1,23 @@
--- Invariant: the keys from k on decide `types_fit`. Hands a key that fits to `type_fits`, one that does not to `type_other`, the end to `types_done`.
+-- Hands a key that fits to `type_fits`, one that does not to `type_other`, the end to `types_done`.
 use Prim.Native.Nat.{◌-◌}
 use native.Mathlib.Omega.{arith}
-use mathlib.Core.Path.{refl, sym, ◌∙◌}
+use mathlib.Core.Path.{sym, ◌∙◌}
 use Rattle.wire_fields.specs.Items.{items}
 use Rattle.wire_message.specs.Message.{entries}
 use Rattle.session_entries.proofs.Laws.{type_fits, type_other, types_done}
 use Rattle.session_entries.proofs.types_fit.Goals as goal
 
-pub loop-k-init : goal.loop-k-init
-loop-k-init c = (omega arith, refl)
-
 pub loop-k-preserved : goal.loop-k-preserved
-loop-k-preserved c = let a = c.args in
-    let k = c.loop-k.k in
-    (omega arith, sym (type_fits (entries a.field (items a.s.now)) k (sym c.key_fits.ensures ∙ c.if-key_fits.true) (omega arith)) ∙ c.loop-k.invariant.1)
+loop-k-preserved c =
+    let es = entries c.args.field (items c.args.s.now) in
+    (omega arith, sym (type_fits es c.loop-k.k (sym c.if-not-key_fits.ensures) (omega arith)) ∙ c.loop-k.invariant.1)
 
-pub returns-else-key_fits : goal.returns-else-key_fits
-returns-else-key_fits c = let a = c.args in
+pub returns-then-not-key_fits : goal.returns-then-not-key_fits
+returns-then-not-key_fits c =
+    let es = entries c.args.field (items c.args.s.now) in
     let k = c.loop-k.k in
-    sym (type_other (entries a.field (items a.s.now)) k {n = 3 - k} (sym c.key_fits.ensures ∙ c.if-key_fits.false) (omega arith)) ∙ c.loop-k.invariant.1
+    sym (type_other es k {n = 3 - k} (sym c.if-not-key_fits.ensures) (omega arith)) ∙ c.loop-k.invariant.1
 
 pub returns : goal.returns
-returns c = let a = c.args in
-    sym (types_done (entries a.field (items a.s.now)) c.loop-k.k (omega arith)) ∙ c.loop-k.invariant.1
+returns c = let es = entries c.args.field (items c.args.s.now) in
+    sym (types_done es c.loop-k.k (omega arith)) ∙ c.loop-k.invariant.1

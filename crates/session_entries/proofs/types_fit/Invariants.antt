@@ -8,6 +8,3 @@ use Rattle.session_entries.proofs.types_fit.Given as goal
 
 abbrev pub invariant-loop-k : goal.invariant-loop-k
 invariant-loop-k l = (l.k ≤ 4) × (types_from l.k (4 - l.k) (entries l.field (items l.s)) ≡ types_fit (entries l.field (items l.s)))
-
-abbrev pub decreases-loop-k : goal.decreases-loop-k
-decreases-loop-k l = 4 - l.k

@@ -6,13 +6,13 @@ use Rattle.wire.proofs.decode.Goals as goal
 pub returns-then-no_member : goal.returns-then-no_member
 unfolding decode_number check_number
 returns-then-no_member c =
-    rw (sym c.check.ensures ∙ c.in-Fine.is, sym c.no_member.ensures ∙ c.if-no_member.true)
+    rw (sym c.check.ensures ∙ c.in-Ok.is, sym c.no_member.ensures ∙ c.if-no_member.true)
 
-pub returns-in-Refused : goal.returns-in-Refused
+pub returns-in-Err : goal.returns-in-Err
 unfolding decode_number check_number
-returns-in-Refused c = rw (sym c.check.ensures ∙ c.in-Refused.is)
+returns-in-Err c = rw (sym c.check.ensures ∙ c.in-Err.is)
 
 pub returns-else-no_member : goal.returns-else-no_member
 unfolding decode_number check_number
 returns-else-no_member c =
-    rw (sym c.check.ensures ∙ c.in-Fine.is, sym c.no_member.ensures ∙ c.if-no_member.false)
+    rw (sym c.check.ensures ∙ c.in-Ok.is, sym c.no_member.ensures ∙ c.if-no_member.false)

@@ -1,25 +1,21 @@
--- Each case of the check, of no_member and of in_range is one of `read_number`.
-use Rattle.wire.specs.Read.{read_number, check_number}
+-- What decode refuses stands (Decoded); where it refuses nothing, in_range decides.
 use mathlib.Core.Path.{sym, ◌∙◌}
+use Rattle.std.proofs.lemmas.Result.{err_from_is_err_and}
+use Rattle.wire.proofs.Decoded.{refused_too, ranged_then}
 use Rattle.wire.proofs.read.Goals as goal
 
-pub returns-then-no_member : goal.returns-then-no_member
-unfolding read_number check_number
-returns-then-no_member c =
-    rw (sym c.check.ensures ∙ c.in-Fine.is, sym c.no_member.ensures ∙ c.if-no_member.true)
+pub returns-in_err-decode : goal.returns-in_err-decode
+returns-in_err-decode c =
+    let p = err_from_is_err_and c.from_residual.result c.from_residual.ensures.1 in
+    let a = c.args in
+    rw (p.1, p.2) (refused_too a.message a.s.now _ _ c.decode.ensures c.in_err-decode.was)
 
 pub returns-then-in_range : goal.returns-then-in_range
-unfolding read_number check_number
 returns-then-in_range c =
-    let fine = sym c.check.ensures ∙ c.in-Fine.is in
-    rw (fine, sym c.no_member.ensures ∙ c.if-no_member.false, sym c.in_range.ensures ∙ c.if-in_range.true)
+    let a = c.args in
+    rw (sym c.in_range.ensures ∙ c.if-in_range.true) at (ranged_then a.message a.s.now _ _ c.decode.ensures c.in_ok-decode.was)
 
-pub returns-in-Refused : goal.returns-in-Refused
-unfolding read_number check_number
-returns-in-Refused c = rw (sym c.check.ensures ∙ c.in-Refused.is)
-
-pub returns-else-in_range : goal.returns-else-in_range
-unfolding read_number check_number
-returns-else-in_range c =
-    let fine = sym c.check.ensures ∙ c.in-Fine.is in
-    rw (fine, sym c.no_member.ensures ∙ c.if-no_member.false, sym c.in_range.ensures ∙ c.if-in_range.false)
+pub returns : goal.returns
+returns c =
+    let a = c.args in
+    rw (sym c.in_range.ensures ∙ c.if-in_range.false) at (ranged_then a.message a.s.now _ _ c.decode.ensures c.in_ok-decode.was)

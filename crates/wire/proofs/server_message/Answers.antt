@@ -2,37 +2,50 @@
 use Prim.Native.Nat.{ℕ}
 use mathlib.Core.List.{List}
 use mathlib.Core.Path.{◌≡◌, sym, ap, ◌∙◌}
+use Rattle.std.specs.Prelude.{Option, Some, Result, Ok}
+use Rattle.wire_types.specs.declared.Refused.{Refused}
 use Rattle.wire_check_field.specs.Check.{check_of}
-use Rattle.wire_check_field.specs.declared.Checked.TheVariants as checked
 use Rattle.wire.specs.Places.{server_from, server_read, server_of, server_value}
 use Rattle.wire.specs.Read.{server_message}
-use Rattle.wire.specs.declared.ServerRead.{ServerRead}
+use Rattle.wire.specs.declared.ServerMember.{ServerMember}
 use Rattle.wire.proofs.Members.{server_means}
 use Rattle.wire.proofs.server_message.Goals as goal
 use Rattle.wire.proofs.server_message.Goals.{After-last_in}
 
 -- the check found nothing
-fine : (c : After-last_in) → check_of 14 c.args.s.now ≡ checked.Fine
-fine c = sym c.check.ensures ∙ c.in-Fine.is
+fine : (c : After-last_in) → check_of 14 c.args.s.now ≡ Ok tt
+fine c = sym c.check.ensures ∙ c.in-Ok.is
 
-told : (s : List ℕ) (r : ServerRead) → r ≡ server_of s → (r ≡ server_of s) × (server_value s r ≡ server_message s)
-told s r e = (e, ap (server_value s) e ∙ server_means s)
+-- what is answered means the message
+told : (s : List ℕ) (r : Result (Option ServerMember) Refused) → r ≡ server_of s → server_value s r ≡ server_message s
+told s r e = ap (server_value s) e ∙ server_means s
 
-pub returns-in-Refused : goal.returns-in-Refused
+pub returns-in-Err-clause-places : goal.returns-in-Err-clause-places
 unfolding server_read
-returns-in-Refused c = let both = told _ _ (rw (sym c.check.ensures ∙ c.in-Refused.is)) in record { places = both.0; means = both.1 }
+returns-in-Err-clause-places c = rw (sym c.check.ensures ∙ c.in-Err.is)
 
-pub returns-in-Nothing : goal.returns-in-Nothing
+pub returns-in-None-clause-places : goal.returns-in-None-clause-places
 unfolding server_from server_read
-returns-in-Nothing c =
-    let both = told _ _ (rw (fine (goal.at.returns-in-Nothing c).After-last_in, sym c.last_in.ensures ∙ c.in-Nothing.is)) in record { places = both.0; means = both.1 }
+returns-in-None-clause-places c = rw (fine (goal.at.returns-in-None-clause-places c).After-last_in, sym c.last_in.ensures ∙ c.in-None.is)
 
-pub returns-in-Number : goal.returns-in-Number
+pub returns-in-Some-Number-clause-places : goal.returns-in-Some-Number-clause-places
 unfolding server_from server_read
-returns-in-Number c =
-    let both = told _ _ (rw (fine (goal.at.returns-in-Number c).After-last_in, sym c.last_in.ensures ∙ c.in-Number.is)) in record { places = both.0; means = both.1 }
+returns-in-Some-Number-clause-places c =
+    rw (fine (goal.at.returns-in-Some-Number-clause-places c).After-last_in, sym c.last_in.ensures ∙ (c.in-Some-Number.is ∙ ap Some c.in-Some-Number.field-0-is))
 
-pub returns-in-Part : goal.returns-in-Part
+pub returns-in-Some-Part-clause-places : goal.returns-in-Some-Part-clause-places
 unfolding server_from server_read
-returns-in-Part c =
-    let both = told _ _ (rw (fine (goal.at.returns-in-Part c).After-last_in, sym c.last_in.ensures ∙ c.in-Part.is)) in record { places = both.0; means = both.1 }
+returns-in-Some-Part-clause-places c =
+    rw (fine (goal.at.returns-in-Some-Part-clause-places c).After-last_in, sym c.last_in.ensures ∙ (c.in-Some-Part.is ∙ ap Some c.in-Some-Part.field-0-is))
+
+pub returns-in-Err-clause-means : goal.returns-in-Err-clause-means
+returns-in-Err-clause-means c = told _ _ (returns-in-Err-clause-places c)
+
+pub returns-in-None-clause-means : goal.returns-in-None-clause-means
+returns-in-None-clause-means c = told _ _ (returns-in-None-clause-places c)
+
+pub returns-in-Some-Number-clause-means : goal.returns-in-Some-Number-clause-means
+returns-in-Some-Number-clause-means c = told _ _ (returns-in-Some-Number-clause-places c)
+
+pub returns-in-Some-Part-clause-means : goal.returns-in-Some-Part-clause-means
+returns-in-Some-Part-clause-means c = told _ _ (returns-in-Some-Part-clause-places c)

@@ -3,7 +3,6 @@ use mathlib.Core.Path.{subst}
 use Rattle.wire_fast_client.specs.Plain.{ClientSaid}
 use Rattle.wire_fast_client.proofs.client.Goals as goal
 
-pub returns-in-Io : goal.returns-in-Io
+pub returns-in-Some : goal.returns-in-Some
 unfolding ClientSaid
-returns-in-Io c =
-    subst (ClientSaid c.args.s.now) c.in-Io.is c.plain_client.ensures
+returns-in-Some c = subst (ClientSaid c.args.s.now) c.in-Some.is c.plain_client.ensures

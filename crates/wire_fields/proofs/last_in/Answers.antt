@@ -2,60 +2,46 @@
 use native.Mathlib.Omega.{arith}
 use mathlib.Core.Path.{◌≡◌, refl, sym, ap, subst, ◌∙◌}
 use mathlib.Core.List.{List}
-use Rattle.wire_fields.specs.Fields.{on_field, fields_at, later, last_of, last_in}
+use Rattle.std.specs.Prelude.{Option, None}
+use Rattle.wire_fields.specs.Fields.{on_field, fields_at, last_of, last_in}
 use Rattle.wire_fields.specs.declared.Field.{Field}
-use Rattle.wire_fields.proofs.Follow.{FieldRead, field_read, follow, none}
+use Rattle.wire_fields.proofs.Follow.{MaybeRead, field_read, behind, follow, none}
 use Rattle.wire_fields.proofs.last_in.Goals as goal
-use Rattle.wire_fields.proofs.last_in.Goals.{After-later-found}
+use Rattle.wire_fields.proofs.last_in.Goals.{After-field_at}
 
--- after a field: how far it reaches, and that the last of what follows it is the answer
-after : (c : After-later-found) (x : Field) → c.field_at-e.result ≡ x →
+-- at a field, or where none can be read: the last of it and of what follows is the answer
+after : (c : After-field_at) (x : Option Field) → c.field_at.result ≡ x →
     let a = c.args in
     let l = c.loop-at in
-    (FieldRead a.s.now l.at x)
-    × (last_of a.lo a.hi l.found (on_field (fields_at a.s.now) x) ≡ last_in a.lo a.hi a.s.now)
-    × (c.later-found.result ≡ later a.lo a.hi l.found x)
+    (MaybeRead a.s.now l.at x) × (last_of a.lo a.hi l.found (on_field (fields_at a.s.now) x) ≡ last_in a.lo a.hi a.s.now)
 after c x e = let a = c.args in
     let l = c.loop-at in
-    let is = sym c.field_at-e.ensures ∙ e in (
-      subst (FieldRead a.s.now l.at) is (field_read a.s.now l.at),
-      ap (λ (y : Field). last_of a.lo a.hi l.found (on_field (fields_at a.s.now) y)) (sym is)
+    let is = sym c.field_at.ensures ∙ e in (
+      subst (MaybeRead a.s.now l.at) is (field_read a.s.now l.at),
+      ap (λ (y : Option Field). last_of a.lo a.hi l.found (on_field (fields_at a.s.now) y)) (sym is)
           ∙ ap (λ (y : List Field). last_of a.lo a.hi l.found y) (sym (follow a.s.now l.at c.loop-at-test.true))
           ∙ l.invariant.1,
-      c.later-found.ensures ∙ ap (λ (y : Field). later a.lo a.hi l.found y) e,
     )
 
 pub loop-at-init : goal.loop-at-init
 loop-at-init c = (omega arith, refl)
 
-pub loop-at-smaller-in-Number : goal.loop-at-smaller-in-Number
-loop-at-smaller-in-Number c = let h = (after (goal.at.loop-at-smaller-in-Number c).After-later-found _ c.in-Number.is).0 in omega arith
-
-pub loop-at-preserved-in-Number : goal.loop-at-preserved-in-Number
+pub returns-in_default : goal.returns-in_default
 unfolding on_field last_of
-loop-at-preserved-in-Number c = let h = after (goal.at.loop-at-preserved-in-Number c).After-later-found _ c.in-Number.is in
-    (h.0.1, rw h.2 h.1)
-
-pub loop-at-smaller-in-Fixed : goal.loop-at-smaller-in-Fixed
-loop-at-smaller-in-Fixed c = let h = (after (goal.at.loop-at-smaller-in-Fixed c).After-later-found _ c.in-Fixed.is).0 in omega arith
-
-pub loop-at-preserved-in-Fixed : goal.loop-at-preserved-in-Fixed
-unfolding on_field last_of
-loop-at-preserved-in-Fixed c = let h = after (goal.at.loop-at-preserved-in-Fixed c).After-later-found _ c.in-Fixed.is in
-    (h.0.1, rw h.2 h.1)
+returns-in_default c = (after (goal.at.returns-in_default c).After-field_at None c.in_default.is).1
 
 pub loop-at-smaller : goal.loop-at-smaller
-loop-at-smaller c = let h = (after (goal.at.loop-at-smaller c).After-later-found _ c.in-Part.is).0 in omega arith
+loop-at-smaller c =
+    let h = (after (goal.at.loop-at-smaller c).After-field_at _ c.in-Some.is).0 in
+    let b = behind _ _ c.in-Some.e h in
+    omega (arith, b.0, b.1, c.next-at.ensures)
 
 pub loop-at-preserved : goal.loop-at-preserved
 unfolding on_field last_of
-loop-at-preserved c = let h = after (goal.at.loop-at-preserved c).After-later-found _ c.in-Part.is in
-    (h.0.2, rw h.2 h.1)
-
-pub returns-in-Broken : goal.returns-in-Broken
-unfolding on_field last_of later
-returns-in-Broken c = let h = after (goal.at.returns-in-Broken c).After-later-found _ c.in-Broken.is in
-    h.2 ∙ h.1
+loop-at-preserved c =
+    let a = c.args in
+    let h = after (goal.at.loop-at-preserved c).After-field_at _ c.in-Some.is in
+    rw (c.next-at.ensures, c.later-found.ensures) ((behind _ _ c.in-Some.e h.0).1, h.1)
 
 pub returns : goal.returns
 unfolding last_of

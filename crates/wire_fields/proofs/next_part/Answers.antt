@@ -1,25 +1,25 @@
 -- The loop keeps "the first from `at` on is the first of all"; a turn follows its field (Follow), the end is Follow.none.
-use borrow.Author.Rules.{rules}
 use borrow.Author.Tests.{eq-eqb, ne_eqb}
 use native.Mathlib.Omega.{arith}
 use mathlib.Core.Path.{◌≡◌, refl, sym, ap, subst, ◌∙◌}
 use mathlib.Core.List.{List}
 use Rattle.wire_fields.specs.Fields.{on_field, fields_at, first_of}
 use Rattle.wire_fields.specs.declared.Field.{Field}
-use Rattle.wire_fields.proofs.Follow.{FieldRead, field_read, follow, none}
+use Rattle.std.specs.Prelude.{Option, Some, None}
+use Rattle.wire_fields.proofs.Follow.{MaybeRead, field_read, follow, none}
 use Rattle.wire_fields.proofs.next_part.Goals as goal
 use Rattle.wire_fields.proofs.next_part.Goals.{After-field_at}
 
 -- at a field: how far it reaches, and that the first of what it leads to is the answer
-after : (c : After-field_at) (x : Field) → c.field_at.result ≡ x →
+after : (c : After-field_at) (x : Option Field) → c.field_at.result ≡ x →
     let a = c.args in
-    (FieldRead a.s.now c.loop-at.at x)
+    (MaybeRead a.s.now c.loop-at.at x)
     × (first_of a.number (on_field (fields_at a.s.now) x) ≡ first_of a.number (fields_at a.s.now a.from))
 after c x e = let a = c.args in
     let l = c.loop-at in
     let is = sym c.field_at.ensures ∙ e in (
-      subst (FieldRead a.s.now l.at) is (field_read a.s.now l.at),
-      ap (λ (y : Field). first_of a.number (on_field (fields_at a.s.now) y)) (sym is)
+      subst (MaybeRead a.s.now l.at) is (field_read a.s.now l.at),
+      ap (λ (y : Option Field). first_of a.number (on_field (fields_at a.s.now) y)) (sym is)
           ∙ ap (λ (y : List Field). first_of a.number y) (sym (follow a.s.now l.at c.loop-at-test.true))
           ∙ l.invariant,
     )
@@ -27,54 +27,35 @@ after c x e = let a = c.args in
 pub loop-at-init : goal.loop-at-init
 loop-at-init c = refl
 
-pub field_at-requires : goal.field_at-requires
-unfolding on_field first_of
-field_at-requires c = search rules
-
-pub enum_known-next : goal.enum_known-next
-unfolding on_field first_of
-enum_known-next c = search rules
-
 pub loop-at-smaller-in-Number : goal.loop-at-smaller-in-Number
-loop-at-smaller-in-Number c = let h = (after (goal.at.loop-at-smaller-in-Number c).After-field_at _ c.in-Number.is).0 in omega arith
+loop-at-smaller-in-Number c = let h = (after (goal.at.loop-at-smaller-in-Number c).After-field_at _ (c.in_ok-next.was ∙ ap Some c.in-Number.is)).0 in omega arith
 
 pub loop-at-preserved-in-Number : goal.loop-at-preserved-in-Number
 unfolding on_field first_of
-loop-at-preserved-in-Number c = (after (goal.at.loop-at-preserved-in-Number c).After-field_at _ c.in-Number.is).1
-
-pub enum_known-next-in-Fixed-1 : goal.enum_known-next-in-Fixed-1
-unfolding on_field first_of
-enum_known-next-in-Fixed-1 c = search rules
+loop-at-preserved-in-Number c = (after (goal.at.loop-at-preserved-in-Number c).After-field_at _ (c.in_ok-next.was ∙ ap Some c.in-Number.is)).1
 
 pub loop-at-smaller-in-Fixed : goal.loop-at-smaller-in-Fixed
-loop-at-smaller-in-Fixed c = let h = (after (goal.at.loop-at-smaller-in-Fixed c).After-field_at _ c.in-Fixed.is).0 in omega arith
+loop-at-smaller-in-Fixed c = let h = (after (goal.at.loop-at-smaller-in-Fixed c).After-field_at _ (c.in_ok-next.was ∙ ap Some c.in-Fixed.is)).0 in omega arith
 
 pub loop-at-preserved-in-Fixed : goal.loop-at-preserved-in-Fixed
 unfolding on_field first_of
-loop-at-preserved-in-Fixed c = (after (goal.at.loop-at-preserved-in-Fixed c).After-field_at _ c.in-Fixed.is).1
-
-pub enum_known-found : goal.enum_known-found
-unfolding on_field first_of
-enum_known-found c = search rules
+loop-at-preserved-in-Fixed c = (after (goal.at.loop-at-preserved-in-Fixed c).After-field_at _ (c.in_ok-next.was ∙ ap Some c.in-Fixed.is)).1
 
 pub returns-then-found-number : goal.returns-then-found-number
 unfolding on_field first_of
-returns-then-found-number c = rw (eq-eqb _ _ c.if-found-number.true) at (after (goal.at.returns-then-found-number c).After-field_at _ c.in-Part.is).1
+returns-then-found-number c = rw (eq-eqb _ _ c.if-found-number.true) at (after (goal.at.returns-then-found-number c).After-field_at _ (c.in_ok-next.was ∙ ap Some c.in-Part.is)).1
 
 pub loop-at-smaller : goal.loop-at-smaller
-loop-at-smaller c = let h = (after (goal.at.loop-at-smaller c).After-field_at _ c.in-Part.is).0 in omega arith
+loop-at-smaller c = let h = (after (goal.at.loop-at-smaller c).After-field_at _ (c.in_ok-next.was ∙ ap Some c.in-Part.is)).0 in omega arith
 
 pub loop-at-preserved : goal.loop-at-preserved
 unfolding on_field first_of
-loop-at-preserved c = rw (ne_eqb _ _ c.if-found-number.false) at (after (goal.at.loop-at-preserved c).After-field_at _ c.in-Part.is).1
+loop-at-preserved c = rw (ne_eqb _ _ c.if-found-number.false) at (after (goal.at.loop-at-preserved c).After-field_at _ (c.in_ok-next.was ∙ ap Some c.in-Part.is)).1
 
-pub enum_told-1 : goal.enum_told-1
+pub returns-in_err-next : goal.returns-in_err-next
 unfolding on_field first_of
-enum_told-1 c = search rules
-
-pub returns-in-Broken : goal.returns-in-Broken
-unfolding on_field first_of
-returns-in-Broken c = (after (goal.at.returns-in-Broken c).After-field_at _ c.in-Broken.is).1
+returns-in_err-next c =
+    rw c.from_residual.ensures (after (goal.at.returns-in_err-next c).After-field_at None c.in_err-next.was).1
 
 pub returns : goal.returns
 unfolding first_of

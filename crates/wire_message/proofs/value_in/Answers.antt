@@ -2,48 +2,61 @@
 use mathlib.Core.Path.{◌≡◌, sym, ap, ◌∙◌}
 use mathlib.Core.List.{List}
 use Prim.Native.Nat.{ℕ}
-use borrow.Author.Tests.{eq-eqb, ne_eqb}
-use Rattle.wire_fields.specs.Fields.{last_in}
+use Rattle.base_laws.proofs.Tests.{tests}
 use Rattle.wire_fields.specs.Items.{items, last_item}
-use Rattle.wire_fields.specs.declared.Last.TheVariants as last
 use Rattle.wire_message.specs.Message.{value_of}
 use Rattle.wire_message.specs.Places.{held_from, held_in, value_at}
+use Rattle.std.specs.Prelude.{Option, Some}
 use Rattle.wire_message.specs.declared.Value.{Value}
 use Rattle.wire_message.proofs.Meaning.{held_means}
 use Rattle.wire_message.proofs.value_in.Goals as goal
-use Rattle.wire_message.proofs.value_in.Goals.{In-Part}
 
--- the part that is last among the fields 2 to 5
-part_is : (c : In-Part) →
-    last_in 2 5 c.args.s.now ≡ last.Part c.in-Part.number c.in-Part.start c.in-Part.end
-part_is c = sym c.last_in.ensures ∙ c.in-Part.is
+-- what the last field is, by the two steps of the match
+step : {A B : Type 0} (f : A → B) {x z : A} {y : B} → y ≡ f x → x ≡ z → y ≡ f z
+step f e h = e ∙ ap f h
 
-told : (s : List ℕ) (v : Value) → v ≡ held_in s → (v ≡ held_in s) × (value_at s v ≡ value_of (last_item 2 5 (items s)))
-told s v e = (e, ap (value_at s) e ∙ held_means s)
+-- what is answered means the value
+told : (s : List ℕ) (v : Option Value) → v ≡ held_in s → value_at s v ≡ value_of (last_item 2 5 (items s))
+told s v e = ap (value_at s) e ∙ held_means s
 
-pub returns-then-number-eq3 : goal.returns-then-number-eq3
+pub returns-in-None-clause-places : goal.returns-in-None-clause-places
 unfolding held_from
-returns-then-number-eq3 c = let both = told _ _ (rw (part_is (goal.at.returns-then-number-eq3 c).In-Part, eq-eqb _ _ c.if-number-eq3.true)) in record { places = both.0; means = both.1 }
+returns-in-None-clause-places c = rw (sym c.last_in.ensures ∙ c.in-None.is)
 
-pub returns-then-number-eq4 : goal.returns-then-number-eq4
+pub returns-in-Some-Number-clause-places : goal.returns-in-Some-Number-clause-places
 unfolding held_from
-returns-then-number-eq4 c =
-    let both = told _ _ (rw (part_is (goal.at.returns-then-number-eq4 c).In-Part, ne_eqb _ _ c.if-number-eq3.false, eq-eqb _ _ c.if-number-eq4.true)) in record { places = both.0; means = both.1 }
+returns-in-Some-Number-clause-places c = rw (step Some (sym c.last_in.ensures ∙ c.in-Some-Number.is) c.in-Some-Number.field-0-is)
 
-pub returns-then-number-eq5 : goal.returns-then-number-eq5
+pub returns-in-3-clause-places : goal.returns-in-3-clause-places
 unfolding held_from
-returns-then-number-eq5 c =
-    let both = told _ _ (rw (part_is (goal.at.returns-then-number-eq5 c).In-Part, ne_eqb _ _ c.if-number-eq3.false, ne_eqb _ _ c.if-number-eq4.false, eq-eqb _ _ c.if-number-eq5.true)) in record { places = both.0; means = both.1 }
+returns-in-3-clause-places c = rw (step Some (sym c.last_in.ensures ∙ c.in-Some-Part.is) c.in-Some-Part.field-0-is, c.in-3.is)
 
-pub returns-in-Nothing : goal.returns-in-Nothing
+pub returns-in-4-clause-places : goal.returns-in-4-clause-places
 unfolding held_from
-returns-in-Nothing c = let both = told _ _ (rw (sym c.last_in.ensures ∙ c.in-Nothing.is)) in record { places = both.0; means = both.1 }
+returns-in-4-clause-places c = rw (step Some (sym c.last_in.ensures ∙ c.in-Some-Part.is) c.in-Some-Part.field-0-is, c.in-4.is)
 
-pub returns-in-Number : goal.returns-in-Number
+pub returns-in-5-clause-places : goal.returns-in-5-clause-places
 unfolding held_from
-returns-in-Number c = let both = told _ _ (rw (sym c.last_in.ensures ∙ c.in-Number.is)) in record { places = both.0; means = both.1 }
+returns-in-5-clause-places c = rw (step Some (sym c.last_in.ensures ∙ c.in-Some-Part.is) c.in-Some-Part.field-0-is, c.in-5.is)
 
-pub returns-else-number-eq5 : goal.returns-else-number-eq5
+pub returns-in_default-clause-places : goal.returns-in_default-clause-places
 unfolding held_from
-returns-else-number-eq5 c =
-    let both = told _ _ (rw (part_is (goal.at.returns-else-number-eq5 c).In-Part, ne_eqb _ _ c.if-number-eq3.false, ne_eqb _ _ c.if-number-eq4.false, ne_eqb _ _ c.if-number-eq5.false)) in record { places = both.0; means = both.1 }
+returns-in_default-clause-places c = rw (step Some (sym c.last_in.ensures ∙ c.in-Some-Part.is) c.in-Some-Part.field-0-is) (search tests)
+
+pub returns-in-None-clause-means : goal.returns-in-None-clause-means
+returns-in-None-clause-means c = told _ _ (returns-in-None-clause-places c)
+
+pub returns-in-Some-Number-clause-means : goal.returns-in-Some-Number-clause-means
+returns-in-Some-Number-clause-means c = told _ _ (returns-in-Some-Number-clause-places c)
+
+pub returns-in-3-clause-means : goal.returns-in-3-clause-means
+returns-in-3-clause-means c = told _ _ (returns-in-3-clause-places c)
+
+pub returns-in-4-clause-means : goal.returns-in-4-clause-means
+returns-in-4-clause-means c = told _ _ (returns-in-4-clause-places c)
+
+pub returns-in-5-clause-means : goal.returns-in-5-clause-means
+returns-in-5-clause-means c = told _ _ (returns-in-5-clause-places c)
+
+pub returns-in_default-clause-means : goal.returns-in_default-clause-means
+returns-in_default-clause-means c = told _ _ (returns-in_default-clause-places c)

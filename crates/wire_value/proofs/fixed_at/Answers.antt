@@ -1,31 +1,21 @@
--- Each case is a test of `fixed_at`: too short from the start, room, or no room.
+-- Each case is a test of `fixed_at`: room, or none, from the start or for the width.
 use Rattle.base_laws.proofs.Tests.{tests}
+use Prim.Native.Nat.{◌-◌, ◌<◌}
 use lib.ListN.{length}
-use Prim.Native.Nat.{◌-◌}
 use borrow.Author.Tests.{lt-leb}
 use native.Mathlib.Omega.{arith}
 use Rattle.wire_value.specs.Field.{fixed_at}
-use borrow.Author.Rules.{rules}
 use Rattle.wire_value.proofs.fixed_at.Goals as goal
-
-pub returns-then-s-from : goal.returns-then-s-from
-unfolding fixed_at
-returns-then-s-from c =
-    let a = c.args in
-    simp (lt-leb a.width (length a.s.now - a.from) (omega arith))
-
-pub overflow_sub-s : goal.overflow_sub-s
-unfolding fixed_at
-overflow_sub-s c = search rules
-
-pub overflow_add-result : goal.overflow_add-result
-unfolding fixed_at
-overflow_add-result c = search rules
+use Rattle.wire_value.proofs.fixed_at.Goals.{else-from-s-via-then-from-s+else-width-s, else-from-s-via-else-from-s}
 
 pub returns-then-width-s : goal.returns-then-width-s
 unfolding fixed_at
 returns-then-width-s c = search tests
 
-pub returns-else-width-s : goal.returns-else-width-s
+pub returns-else-from-s : goal.returns-else-from-s
 unfolding fixed_at
-returns-else-width-s c = search tests
+returns-else-from-s c =
+    let short : length c.args.s.now - c.args.from < c.args.width =
+    elim c.else-from-s.branch [ else-from-s-via-then-from-s+else-width-s w ↦ omega arith | else-from-s-via-else-from-s w ↦ omega arith ]
+    in
+    rw (lt-leb _ _ short)

@@ -11,6 +11,6 @@ pub returns-then-length-left : goal.returns-then-length-left
 unfolding part_of
 returns-then-length-left c =
     let a = c.args in
-    let short : c.wide-length.result < 128 = omega arith in
-    let one = one_byte a.s.now a.at c.wide-length.result c.if-at-s.true (sym c.wide-length.ensures) short in
+    let short : c.from-length.result < 128 = omega arith in
+    let one = one_byte a.s.now a.at c.from-length.result c.if-at-s.true (sym c.from-length.ensures) short in
     rw (one, le-leb _ _ c.if-length-left.true)

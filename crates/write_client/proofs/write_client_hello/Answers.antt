@@ -2,14 +2,16 @@
 use Rattle.write_message.proofs.Outcomes.{same_outcome, same_wrapped}
 use Rattle.write_message.proofs.Members.{member_small, plain_fits}
 use Rattle.write_pieces.specs.Parts.{cover, around}
-use Rattle.write_forms.specs.Pieces.{encode}
+use Rattle.write_forms.specs.Draft.{cut_at}
+use Rattle.write_forms.specs.Pieces.{encode, elements, packed}
 use native.Mathlib.Omega.{arith}
 use mathlib.Core.Path.{refl}
 use Rattle.write_client.proofs.write_client_hello.Goals as goal
 
 pub returns : goal.returns
-unfolding encode around cover
+unfolding encode around cover elements cut_at packed
 returns c =
     let both = same_outcome c.write_plain.ensures _ _ _ refl
     (plain_fits _ (λ h. member_small 13 13 _ (omega arith) c.member_in-fits.ensures h) c.member_in-fits.ensures)
-    (λ h. rw c.listed-p.ensures (same_wrapped _ _ _ refl)) in record { answer = both.0; buffer = both.1 }
+    (λ h. same_wrapped _ _ _ refl) in
+    record { answer = both.0; buffer = both.1 }

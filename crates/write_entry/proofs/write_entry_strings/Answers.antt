@@ -13,4 +13,4 @@ returns c =
     let both = let key = c.args.key.now in
     same_outcome c.write_message.ensures _ _ _ refl
     (list_fits _ _ (λ h. entry_small _ key c.entry_fits-fits.ensures h) c.entry_fits-fits.ensures)
-    (λ h. rw c.listed-p.ensures (same_wrapped _ _ _ refl)) in record { answer = both.0; buffer = both.1 }
+    (λ h. same_wrapped _ _ _ refl) in record { answer = both.0; buffer = both.1 }

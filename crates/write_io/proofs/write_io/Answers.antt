@@ -1,18 +1,17 @@
--- Outcomes.same_outcome: the range (Members.both_same) and the bytes (same_wrapped) are the buffer's; Members.member_small bounds the member.
+-- Outcomes.same_outcome: the range and the bytes (same_wrapped) are the buffer's; Members.member_first bounds the member.
 use Rattle.write_message.proofs.Outcomes.{same_outcome, same_wrapped}
-use Rattle.write_message.proofs.Members.{member_small, both_same, plain_fits}
+use Rattle.write_message.proofs.Members.{member_first, plain_fits}
 use Rattle.write_pieces.specs.Parts.{cover, around}
-use Rattle.write_forms.specs.Pieces.{encode}
-use Rattle.base_laws.proofs.Order.{both_true}
+use Rattle.write_forms.specs.Draft.{cut_at}
+use Rattle.write_forms.specs.Pieces.{encode, elements, packed}
 use native.Mathlib.Omega.{arith}
-use mathlib.Core.Path.{refl, sym, ◌∙◌}
+use mathlib.Core.Path.{refl}
 use Rattle.write_io.proofs.write_io.Goals as goal
 
 pub returns : goal.returns
-unfolding encode around cover
+unfolding encode around cover elements cut_at packed
 returns c =
     let both = same_outcome c.write_plain.ensures _ _ _ refl
-    (plain_fits _
-    (λ h. member_small 6 10 _ (omega arith) c.member_in.ensures (both_true _ _ (sym c.both-fits.ensures ∙ h)).0)
-    (both_same c.both-fits.ensures c.member_in.ensures c.moment_fits.ensures))
-    (λ h. rw c.timed-p.ensures (same_wrapped _ _ _ refl)) in record { answer = both.0; buffer = both.1 }
+    (plain_fits _ (λ h. member_first 6 10 _ _ (omega arith) c.io_fits.ensures h) c.io_fits.ensures)
+    (λ h. same_wrapped _ _ _ refl) in
+    record { answer = both.0; buffer = both.1 }

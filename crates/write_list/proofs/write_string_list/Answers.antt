@@ -10,4 +10,4 @@ pub returns : goal.returns
 unfolding encode around cover packed
 returns c =
     let both = same_outcome c.write_message.ensures _ _ _ refl refl
-    (λ h. rw c.listed-p.ensures (same_wrapped _ _ _ (append-nil _))) in record { answer = both.0; buffer = both.1 }
+    (λ h. same_wrapped _ _ _ (append-nil _)) in record { answer = both.0; buffer = both.1 }

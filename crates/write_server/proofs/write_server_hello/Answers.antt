@@ -16,4 +16,4 @@ returns c =
     let list = elements 3 (cut_at a.joined.now 0 a.ends.now) in
     same_outcome c.write_message.ensures _ _ _ refl
     (list_fits _ _ (λ h. member_small 1 1 _ (omega arith) c.member_in-fits.ensures h) c.member_in-fits.ensures)
-    (λ h. rw (c.listed-p.ensures, c.flag.ensures) (same_wrapped _ _ _ (rw (append-nil list)))) in record { answer = both.0; buffer = both.1 }
+    (λ h. rw c.from.ensures (same_wrapped _ _ _ (rw (append-nil list)))) in record { answer = both.0; buffer = both.1 }

@@ -4,19 +4,14 @@ use Rattle.conf_lines.specs.Scan.{Started}
 use Rattle.conf_read.proofs.LineLaws.{line_at, remark_at}
 use Rattle.conf_read.proofs.survey.line_at.Goals as goal
 
-pub read_line-requires : goal.read_line-requires
-read_line-requires c =
-    let a = c.args in
-    (subst (Started a.text.now a.c) c.in-Line.is c.line_start.ensures).same.onward.sound
-
 pub returns-in-Line : goal.returns-in-Line
 returns-in-Line c =
     let a = c.args in
     let b = subst (Started a.text.now a.c) c.in-Line.is c.line_start.ensures in
-    line_at a.text.now a.c _ _ c.requires.1 b c.read_line.ensures
+    line_at a.text.now a.c _ _ c.requires b c.read_line.ensures
 
 pub returns-in-Remark : goal.returns-in-Remark
 returns-in-Remark c =
     let a = c.args in
     let k = subst (Started a.text.now a.c) c.in-Remark.is c.line_start.ensures in
-    remark_at a.text.now a.c _ c.requires.1 k
+    remark_at a.text.now a.c _ c.requires k

@@ -9,7 +9,7 @@ use Rattle.file_compare.proofs.pair.entry_of.Goals as goal
 pub returns-then-ends_both : goal.returns-then-ends_both
 returns-then-ends_both c =
     let a = c.args in
-    entry_same (record_with a.kind a.delay a.contents.now) (record_with a.kind2 a.delay2 a.contents2.now) _ _ _
+    entry_same (record_with a.head.kind a.head.delay a.contents.now) (record_with a.head2.kind a.head2.delay a.contents2.now) _ _ _
     c.flag.ensures.0 c.flag-2.ensures.0 c.first_difference-at.ensures
     (sym c.ends_both.ensures ∙ c.if-ends_both.true)
 
@@ -21,6 +21,6 @@ overflow_add-result-2 c =
 pub returns : goal.returns
 returns c =
     let a = c.args in
-    entry_differs (record_with a.kind a.delay a.contents.now) (record_with a.kind2 a.delay2 a.contents2.now) _ _ _
+    entry_differs (record_with a.head.kind a.head.delay a.contents.now) (record_with a.head2.kind a.head2.delay a.contents2.now) _ _ _
     c.flag.ensures.0 c.flag-2.ensures.0 c.first_difference-at.ensures
     (sym c.ends_both.ensures ∙ c.if-ends_both.false)

@@ -5,16 +5,15 @@ use Rattle.file_compare.proofs.Turns.{lay_start, lay_more, lay_end}
 use Rattle.file_compare.proofs.walk.lay_entries.Goals as goal
 
 pub loop-k-init : goal.loop-k-init
-loop-k-init c = (omega arith, refl, λ rs qs x y n. lay_start _ _ _ rs qs x y)
+loop-k-init c = (refl, λ rs qs x y n. lay_start _ _ _ rs qs x y)
 
 pub loop-k-preserved : goal.loop-k-preserved
 loop-k-preserved c = (
-  omega arith,
-  c.put.auto.out ∙ c.loop-k.invariant.1,
+  c.put.auto.out ∙ c.loop-k.invariant.0,
   λ rs qs x y n.
-      lay_more _ _ _ _ _ _ _ _ rs qs _ c.step_on-step.ensures (omega arith) (omega arith) c.put.ensures (c.loop-k.invariant.2 rs qs x y n),
+      lay_more _ _ _ _ _ _ _ _ rs qs _ c.step_on-step.ensures (omega arith) (omega arith) c.put.ensures (c.loop-k.invariant.1 rs qs x y n),
 )
 
 pub returns : goal.returns
 returns c rs qs x y n =
-    lay_end _ _ _ _ _ _ _ rs qs (omega arith) (c.loop-k.invariant.2 rs qs x y n)
+    lay_end _ _ _ _ _ _ _ rs qs (omega arith) (c.loop-k.invariant.1 rs qs x y n)

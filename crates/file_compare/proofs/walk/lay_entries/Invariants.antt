@@ -1,7 +1,7 @@
 -- The loop keeps Turns.Laying: k entries are stored, and the others are those of the records left; a turn is lay_more, the end lay_end.
 use mathlib.Core.Path.{◌≡◌}
 use mathlib.Core.List.{List}
-use Prim.Native.Nat.{◌-◌, ◌≤◌, max}
+use Prim.Native.Nat.{max}
 use lib.ListN.{length}
 use Rattle.file_format.specs.Record.{Record}
 use Rattle.file_format.specs.File.{all, records_of}
@@ -10,8 +10,5 @@ use Rattle.file_compare.proofs.walk.lay_entries.Given as goal
 
 abbrev pub invariant-loop-k : goal.invariant-loop-k
 invariant-loop-k l =
-    (l.k ≤ l.count) × (length l.out ≡ length l.initial.out)
+    (length l.out ≡ length l.initial.out)
     × ((rs qs : List Record) → records_of l.a ≡ all rs → records_of l.b ≡ all qs → l.count ≡ max (length rs) (length qs) → Laying l.a l.b l.initial.out l.out l.i l.j l.k rs qs)
-
-abbrev pub decreases-loop-k : goal.decreases-loop-k
-decreases-loop-k l = l.count - l.k

@@ -2,13 +2,14 @@
 use Rattle.replay_lines.specs.Wording.{key_text}
 use borrow.Author.Tests.{eq-eqb, ne_eqb}
 use native.Mathlib.Omega.{arith}
+use mathlib.Core.Path.{sym}
 use Rattle.base_copy.proofs.Puts.{then, nothing}
 use Rattle.replay_lines.proofs.frame.put_key.Goals as goal
 
 pub returns-then-refusal-eq8 : goal.returns-then-refusal-eq8
 unfolding key_text
 returns-then-refusal-eq8 c =
-    rw (eq-eqb c.args.refusal 8 c.if-refusal-eq8.true)
+    rw (eq-eqb c.args.refusal 8 c.if-refusal-eq8.true, sym c.from.ensures)
     (then c.put_raw-a.ensures c.put_decimal.ensures.0, omega arith)
 
 pub returns : goal.returns

@@ -4,12 +4,12 @@ use native.Mathlib.Omega.{arith}
 use Rattle.base_copy.proofs.Puts.{then, nothing}
 use Rattle.replay_lines.proofs.frame.put_point.Goals as goal
 
-pub returns-in-Absent : goal.returns-in-Absent
+pub returns-in_default : goal.returns-in_default
 unfolding point_text
-returns-in-Absent c = let a = c.args in rw c.in-Absent.is (nothing a.out.now a.at (omega arith), omega arith)
+returns-in_default c = let a = c.args in rw c.in_default.is (nothing a.out.now a.at (omega arith), omega arith)
 
-pub returns-in-At : goal.returns-in-At
+pub returns : goal.returns
 unfolding point_text
-returns-in-At c =
+returns c =
     let begun = then (then c.put_raw-a.ensures c.put_decimal-b.ensures.0) c.put_raw-c.ensures in
-    rw c.in-At.is (then begun c.put_nine.ensures, omega arith)
+    rw c.in-Some.is (then begun c.put_nine.ensures, omega arith)

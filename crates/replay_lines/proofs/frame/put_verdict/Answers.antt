@@ -2,6 +2,7 @@
 use Rattle.replay_lines.specs.Wording.{verdict}
 use borrow.Author.Tests.{eq-eqb, ne_eqb}
 use native.Mathlib.Omega.{arith}
+use mathlib.Core.Path.{sym}
 use Rattle.base_copy.proofs.Puts.{then}
 use Rattle.replay_lines.proofs.frame.put_verdict.Goals as goal
 
@@ -14,5 +15,5 @@ returns-then-refusal-eq0 c =
 pub returns : goal.returns
 unfolding verdict
 returns c =
-    rw (ne_eqb c.args.refusal 0 c.if-refusal-eq0.false)
+    rw (ne_eqb c.args.refusal 0 c.if-refusal-eq0.false, sym c.from.ensures)
     (then c.put_raw-a.ensures c.put_decimal.ensures.0, omega arith)

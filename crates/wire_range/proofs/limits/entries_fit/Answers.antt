@@ -3,17 +3,17 @@ use Rattle.wire_range.specs.Limits.{entries_fit}
 use Rattle.wire_message.specs.Message.{entries}
 use Rattle.wire_elements.proofs.Elements.{all_elements, found_none, found_part, found_in_bounds}
 use Rattle.wire_fields.specs.Fields.{fields_at, first_of}
-use Rattle.wire_fields.specs.declared.Found.TheVariants as found
+use Rattle.std.specs.Prelude.{Some}
 use native.Mathlib.Omega.{arith}
 use mathlib.Core.Path.{◌≡◌, sym, ◌∙◌}
 use Rattle.wire_range.proofs.limits.entries_fit.Goals as goal
-use Rattle.wire_range.proofs.limits.entries_fit.Goals.{In-Part}
+use Rattle.wire_range.proofs.limits.entries_fit.Goals.{In-Some}
 
 -- the entry that is found
-entry_found : (c : In-Part) →
+entry_found : (c : In-Some) →
     let a = c.args in
-    first_of a.number (fields_at a.s.now c.loop-start.at) ≡ found.Part c.in-Part.start c.in-Part.end
-entry_found c = sym c.next_part.ensures ∙ c.in-Part.is
+    first_of a.number (fields_at a.s.now c.loop-start.at) ≡ Some c.in-Some.field-0
+entry_found c = sym c.next_part.ensures ∙ c.in-Some.is
 
 pub loop-start-init : goal.loop-start-init
 unfolding entries
@@ -29,20 +29,20 @@ pub slice_bounds-entry_fits-end : goal.slice_bounds-entry_fits-end
 slice_bounds-entry_fits-end c = let in_bounds = found_in_bounds _ _ _ (entry_found c) in omega arith
 
 pub loop-start-smaller : goal.loop-start-smaller
-loop-start-smaller c = let in_bounds = found_in_bounds _ _ _ (entry_found (goal.at.loop-start-smaller c).In-Part) in omega arith
+loop-start-smaller c = let in_bounds = found_in_bounds _ _ _ (entry_found (goal.at.loop-start-smaller c).In-Some) in omega arith
 
 pub loop-start-preserved : goal.loop-start-preserved
 unfolding entries_fit
 loop-start-preserved c =
-    rw (found_part _ _ _ (entry_found (goal.at.loop-start-preserved c).In-Part), sym c.entry_fits.ensures ∙ c.if-entry_fits.true) at c.loop-start.invariant
+    rw (found_part _ _ _ (entry_found (goal.at.loop-start-preserved c).In-Some), sym c.entry_fits.ensures ∙ c.if-not-entry_fits.false) at c.loop-start.invariant
 
-pub returns-else-entry_fits : goal.returns-else-entry_fits
+pub returns-then-not-entry_fits : goal.returns-then-not-entry_fits
 unfolding entries_fit
-returns-else-entry_fits c =
-    rw (found_part _ _ _ (entry_found (goal.at.returns-else-entry_fits c).In-Part), sym c.entry_fits.ensures ∙ c.if-entry_fits.false) at c.loop-start.invariant
+returns-then-not-entry_fits c =
+    rw (found_part _ _ _ (entry_found (goal.at.returns-then-not-entry_fits c).In-Some), sym c.entry_fits.ensures ∙ c.if-not-entry_fits.true) at c.loop-start.invariant
 
-pub returns-in-Nothing : goal.returns-in-Nothing
+pub returns : goal.returns
 unfolding entries_fit
-returns-in-Nothing c =
-    let none = found_none _ _ _ (sym c.next_part.ensures ∙ c.in-Nothing.is) in
+returns c =
+    let none = found_none _ _ _ (sym c.next_part.ensures ∙ c.in_default.is) in
     rw none at c.loop-start.invariant

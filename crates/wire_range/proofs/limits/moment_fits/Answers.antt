@@ -13,6 +13,7 @@ returns-then-t-le-SECONDS_LIMIT c =
     rw (up_to_lem 4294967295 9223372036854775808 c.args.t.seconds (lit≤ tt), le-leb _ _ c.if-t-le-SECONDS_LIMIT.true)
     c.date_fits.ensures
 
-pub returns : goal.returns
+pub returns-else-t-le-SECONDS_LIMIT : goal.returns-else-t-le-SECONDS_LIMIT
 unfolding moment_fits time_value int64
-returns c = rw (up_to_lem 4294967295 9223372036854775808 c.args.t.seconds (lit≤ tt), lt-leb _ _ c.if-t-le-SECONDS_LIMIT.false)
+returns-else-t-le-SECONDS_LIMIT c =
+    rw (up_to_lem 4294967295 9223372036854775808 c.args.t.seconds (lit≤ tt), lt-leb _ _ c.if-t-le-SECONDS_LIMIT.false)

@@ -8,5 +8,5 @@ pub returns-then-b-lt128 : goal.returns-then-b-lt128
 unfolding tag_at
 returns-then-b-lt128 c =
     let a = c.args in
-    let one = one_byte a.s.now a.at c.wide-b.result c.if-at-s.true (sym c.wide-b.ensures) c.if-b-lt128.true in
+    let one = one_byte a.s.now a.at c.from-b.result c.if-at-s.true (sym c.from-b.ensures) c.if-b-lt128.true in
     rw one c.tag_of.ensures

@@ -7,14 +7,10 @@ pub returns-then-wire-le2 : goal.returns-then-wire-le2
 unfolding tag_fits
 returns-then-wire-le2 c = search tests
 
-pub returns-then-value-ge1 : goal.returns-then-value-ge1
+pub returns-else-value-ge1 : goal.returns-else-value-ge1
 unfolding tag_fits
-returns-then-value-ge1 c = search tests
+returns-else-value-ge1 c = search tests
 
-pub returns-then-value-le-TAG_LIMIT : goal.returns-then-value-le-TAG_LIMIT
+pub returns-else-wire-le2 : goal.returns-else-wire-le2
 unfolding tag_fits
-returns-then-value-le-TAG_LIMIT c = search tests
-
-pub returns : goal.returns
-unfolding tag_fits
-returns c = search tests
+returns-else-wire-le2 c = search tests

@@ -5,7 +5,7 @@ use Rattle.wire_walk_io.proofs.Ios.{Walked}
 use Rattle.wire_walk_io.proofs.io.io_buffer.Given as goal
 
 abbrev pub invariant-loop-at : goal.invariant-loop-at
-invariant-loop-at l = Walked l.s l.at l.seconds l.nanos l.from l.to
+invariant-loop-at l = Walked l.s l.at l.delay l.contents
 
 abbrev pub decreases-loop-at : goal.decreases-loop-at
 decreases-loop-at l = length l.s - l.at

@@ -1,86 +1,84 @@
 -- The loop keeps Times.Going: the check and the last numbers from `at` on are the whole's; each turn is one lemma of Times on its TagAt.
 use native.Mathlib.Omega.{arith}
-use mathlib.Core.Path.{sym, ◌∙◌}
-use Rattle.wire_walk_io.proofs.Times.{start, finish, tag_past, tag_long, TagAt, second, nano, second_past, second_long}
-use Rattle.wire_walk_io.proofs.Times.{nano_past, nano_long, rest, rest_refused, no_inside}
+use mathlib.Core.Path.{sym, ap, ◌∙◌}
+use Rattle.std.specs.Prelude.{Ok}
+use Rattle.std.proofs.lemmas.Result.{err_from_is_err_and}
+use Rattle.wire_walk_io.proofs.Times.{read_ok, start, finish, tag_refused, TagAt, second, nano, second_refused, nano_refused, rest, rest_refused, never_inside}
 use Rattle.wire_walk_io.proofs.time.time_spec.Goals as goal
-use Rattle.wire_walk_io.proofs.time.time_spec.Goals.{In-Inside, In-Value}
+use Rattle.wire_walk_io.proofs.time.time_spec.Goals.{In-Inside, In_ok-tag}
 
 -- what a turn is at, once its tag is read
-tag : (c : In-Value) →
-    TagAt c.args.s.now c.loop-at.at c.loop-at.seconds c.loop-at.nanos c.in-Value.tag c.in-Value.next
+tag : (c : In_ok-tag) → TagAt c.args.s.now c.loop-at.at c.loop-at.time c.in_ok-tag.field-0.value c.in_ok-tag.field-0.next
 tag c = record {
   going = c.loop-at.invariant;
   more = c.loop-at-test.true;
-  tagged = sym c.varint_at.ensures ∙ c.in-Value.is;
+  tagged = read_ok _ _ _ (sym c.number_at.ensures ∙ c.in_ok-tag.was);
 }
 
-never_inside : (c : In-Inside) → ⊥
-never_inside c = no_inside _ _ _ _ _ _ _ (sym c.rest_at.ensures ∙ c.in-Inside.is)
+entered : (c : In-Inside) → ⊥
+entered c = never_inside _ _ _ _ (sym c.rest_at.ensures ∙ c.in_ok-after.was ∙ ap Ok c.in-Inside.is)
 
 pub loop-at-init : goal.loop-at-init
 loop-at-init c = start _
 
-pub loop-at-smaller-in-Value-varint_at : goal.loop-at-smaller-in-Value-varint_at
-loop-at-smaller-in-Value-varint_at c =
-    let next = second (tag (goal.at.loop-at-smaller-in-Value-varint_at c).In-Value) c.if-tag-eq8.true (sym c.varint_at-then-tag-eq8.ensures ∙ c.in-Value-varint_at.is) in
+pub returns-in_err-tag : goal.returns-in_err-tag
+returns-in_err-tag c =
+    let p = err_from_is_err_and c.from_residual.result c.from_residual.ensures.1 in
+    rw (p.1, p.2) (tag_refused c.loop-at.invariant c.loop-at-test.true (sym c.number_at.ensures ∙ c.in_err-tag.was))
+
+pub returns-in_err-value : goal.returns-in_err-value
+returns-in_err-value c =
+    let p = err_from_is_err_and c.from_residual-in_err-value.result c.from_residual-in_err-value.ensures.1 in
+    rw (p.1, p.2)
+    (second_refused (tag (goal.at.returns-in_err-value c).In_ok-tag) c.if-tag-eq8.true (sym c.number_at-then-tag-eq8.ensures ∙ c.in_err-value.was))
+
+pub loop-at-smaller-then-tag-eq8 : goal.loop-at-smaller-then-tag-eq8
+loop-at-smaller-then-tag-eq8 c =
+    let read = read_ok _ _ _ (sym c.number_at-then-tag-eq8.ensures ∙ c.in_ok-value.was) in
+    let next = second (tag (goal.at.loop-at-smaller-then-tag-eq8 c).In_ok-tag) c.if-tag-eq8.true read in
     omega (arith, next.0, next.1.within)
 
-pub loop-at-preserved-in-Value-varint_at : goal.loop-at-preserved-in-Value-varint_at
-loop-at-preserved-in-Value-varint_at c =
-    (second (tag (goal.at.loop-at-preserved-in-Value-varint_at c).In-Value) c.if-tag-eq8.true (sym c.varint_at-then-tag-eq8.ensures ∙ c.in-Value-varint_at.is)).1
+pub loop-at-preserved-then-tag-eq8 : goal.loop-at-preserved-then-tag-eq8
+loop-at-preserved-then-tag-eq8 c =
+    let read = read_ok _ _ _ (sym c.number_at-then-tag-eq8.ensures ∙ c.in_ok-value.was) in
+    (second (tag (goal.at.loop-at-preserved-then-tag-eq8 c).In_ok-tag) c.if-tag-eq8.true read).1
 
-pub returns-in-PastEnd-varint_at : goal.returns-in-PastEnd-varint_at
-returns-in-PastEnd-varint_at c =
-    second_past (tag (goal.at.returns-in-PastEnd-varint_at c).In-Value) c.if-tag-eq8.true (sym c.varint_at-then-tag-eq8.ensures ∙ c.in-PastEnd-varint_at.is)
+pub returns-in_err-value-2 : goal.returns-in_err-value-2
+returns-in_err-value-2 c =
+    let p = err_from_is_err_and c.from_residual-in_err-value-2.result c.from_residual-in_err-value-2.ensures.1 in
+    rw (p.1, p.2)
+    (nano_refused (tag (goal.at.returns-in_err-value-2 c).In_ok-tag) c.if-tag-eq16.true (sym c.number_at-then-tag-eq16.ensures ∙ c.in_err-value-2.was))
 
-pub returns-in-TooLong-varint_at : goal.returns-in-TooLong-varint_at
-returns-in-TooLong-varint_at c =
-    second_long (tag (goal.at.returns-in-TooLong-varint_at c).In-Value) c.if-tag-eq8.true (sym c.varint_at-then-tag-eq8.ensures ∙ c.in-TooLong-varint_at.is)
-
-pub loop-at-smaller-in-Value-varint_at-2 : goal.loop-at-smaller-in-Value-varint_at-2
-loop-at-smaller-in-Value-varint_at-2 c =
-    let next = nano (tag (goal.at.loop-at-smaller-in-Value-varint_at-2 c).In-Value) c.if-tag-eq16.true (sym c.varint_at-then-tag-eq16.ensures ∙ c.in-Value-varint_at-2.is) in
+pub loop-at-smaller-then-tag-eq16 : goal.loop-at-smaller-then-tag-eq16
+loop-at-smaller-then-tag-eq16 c =
+    let read = read_ok _ _ _ (sym c.number_at-then-tag-eq16.ensures ∙ c.in_ok-value-2.was) in
+    let next = nano (tag (goal.at.loop-at-smaller-then-tag-eq16 c).In_ok-tag) c.if-tag-eq16.true read in
     omega (arith, next.0, next.1.within)
 
-pub loop-at-preserved-in-Value-varint_at-2 : goal.loop-at-preserved-in-Value-varint_at-2
-loop-at-preserved-in-Value-varint_at-2 c =
-    (nano (tag (goal.at.loop-at-preserved-in-Value-varint_at-2 c).In-Value) c.if-tag-eq16.true (sym c.varint_at-then-tag-eq16.ensures ∙ c.in-Value-varint_at-2.is)).1
+pub loop-at-preserved-then-tag-eq16 : goal.loop-at-preserved-then-tag-eq16
+loop-at-preserved-then-tag-eq16 c =
+    let read = read_ok _ _ _ (sym c.number_at-then-tag-eq16.ensures ∙ c.in_ok-value-2.was) in
+    (nano (tag (goal.at.loop-at-preserved-then-tag-eq16 c).In_ok-tag) c.if-tag-eq16.true read).1
 
-pub returns-in-PastEnd-varint_at-2 : goal.returns-in-PastEnd-varint_at-2
-returns-in-PastEnd-varint_at-2 c =
-    nano_past (tag (goal.at.returns-in-PastEnd-varint_at-2 c).In-Value) c.if-tag-eq16.true (sym c.varint_at-then-tag-eq16.ensures ∙ c.in-PastEnd-varint_at-2.is)
-
-pub returns-in-TooLong-varint_at-2 : goal.returns-in-TooLong-varint_at-2
-returns-in-TooLong-varint_at-2 c =
-    nano_long (tag (goal.at.returns-in-TooLong-varint_at-2 c).In-Value) c.if-tag-eq16.true (sym c.varint_at-then-tag-eq16.ensures ∙ c.in-TooLong-varint_at-2.is)
+pub returns-in_err-after : goal.returns-in_err-after
+returns-in_err-after c =
+    let p = err_from_is_err_and c.from_residual-in_err-after.result c.from_residual-in_err-after.ensures.1 in
+    rw (p.1, p.2) (rest_refused (tag (goal.at.returns-in_err-after c).In_ok-tag) (sym c.rest_at.ensures ∙ c.in_err-after.was))
 
 pub loop-at-smaller-in-Next : goal.loop-at-smaller-in-Next
 loop-at-smaller-in-Next c =
-    let next = rest (tag (goal.at.loop-at-smaller-in-Next c).In-Value) c.if-tag-eq8.false c.if-tag-eq16.false (sym c.rest_at.ensures ∙ c.in-Next.is) in
+    let next = rest (tag (goal.at.loop-at-smaller-in-Next c).In_ok-tag) c.if-tag-eq8.false c.if-tag-eq16.false (sym c.rest_at.ensures ∙ c.in_ok-after.was ∙ ap Ok c.in-Next.is) in
     omega (arith, next.0, next.1.within)
 
 pub loop-at-preserved-in-Next : goal.loop-at-preserved-in-Next
 loop-at-preserved-in-Next c =
-    (rest (tag (goal.at.loop-at-preserved-in-Next c).In-Value) c.if-tag-eq8.false c.if-tag-eq16.false (sym c.rest_at.ensures ∙ c.in-Next.is)).1
+    (rest (tag (goal.at.loop-at-preserved-in-Next c).In_ok-tag) c.if-tag-eq8.false c.if-tag-eq16.false (sym c.rest_at.ensures ∙ c.in_ok-after.was ∙ ap Ok c.in-Next.is)).1
 
 pub loop-at-smaller : goal.loop-at-smaller
-loop-at-smaller c = absurd (never_inside c)
+loop-at-smaller c = absurd (entered c)
 
 pub loop-at-preserved : goal.loop-at-preserved
-loop-at-preserved c = absurd (never_inside c)
-
-pub returns-in-Refused : goal.returns-in-Refused
-returns-in-Refused c =
-    rest_refused (tag (goal.at.returns-in-Refused c).In-Value) (sym c.rest_at.ensures ∙ c.in-Refused.is)
-
-pub returns-in-PastEnd : goal.returns-in-PastEnd
-returns-in-PastEnd c =
-    tag_past c.loop-at.invariant c.loop-at-test.true (sym c.varint_at.ensures ∙ c.in-PastEnd.is)
-
-pub returns-in-TooLong : goal.returns-in-TooLong
-returns-in-TooLong c =
-    tag_long c.loop-at.invariant c.loop-at-test.true (sym c.varint_at.ensures ∙ c.in-TooLong.is)
+loop-at-preserved c = absurd (entered c)
 
 pub returns : goal.returns
 returns c = finish c.loop-at.invariant c.loop-at-test.false

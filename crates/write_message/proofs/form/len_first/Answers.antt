@@ -8,8 +8,8 @@ use Rattle.write_message.proofs.form.len_first.Goals as goal
 
 pub returns : goal.returns
 returns c =
-    let p = c.args.p in
-    let time = like_piece (time_piece p.time (stamp p.seconds p.nanos)) c.len_time.ensures.0 in
+    let p = c.args.p.now in
+    let time = like_piece (time_piece p.time (stamp p.stamp.seconds p.stamp.nanos)) c.len_time.ensures.0 in
     let one = like_piece (some 1 p.one) c.len_number.ensures.0 in
     let two = like_piece (number_piece p.always 2 p.two) c.len_number-2.ensures.0 in
     let texts = like_end c.len_text-2.ensures.0 in

@@ -7,8 +7,8 @@ use Rattle.write_message.proofs.form.len_form.Goals as goal
 pub returns : goal.returns
 returns c =
     let a = c.args in
-    let ps = first_pieces a.p a.t1.now a.t2.now in
-    let qs = last_pieces a.p a.t4.now a.t5.now in
+    let ps = first_pieces a.p.now in
+    let qs = last_pieces a.p.now in
     let first = c.len_first.ensures.0 in
     let last = c.len_last.ensures.0 in
-    (λ m h. like_between ps qs a.p.inner m first h c.len_cover.ensures.0 last, search rules)
+    (λ m h. like_between ps qs a.p.now.inner m first h c.len_cover.ensures.0 last, search rules)

@@ -7,7 +7,7 @@ use Rattle.write_message.proofs.form.len_last.Goals as goal
 
 pub returns : goal.returns
 returns c =
-    let p = c.args.p in
+    let p = c.args.p.now in
     let three = like_piece (some 3 p.three) c.len_number.ensures.0 in
     let four = like_piece (some 4 p.four) c.len_number-2.ensures.0 in
     let last = like_end c.len_text-2.ensures.0 in

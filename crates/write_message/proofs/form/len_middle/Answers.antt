@@ -3,9 +3,6 @@ use Rattle.write_pieces.proofs.Lengths.{like_append}
 use borrow.Author.Rules.{rules}
 use Rattle.write_message.proofs.form.len_middle.Goals as goal
 
-pub len_list-requires : goal.len_list-requires
-len_list-requires c = c.requires
-
 pub returns : goal.returns
 returns c =
     (like_append c.len_list.ensures.0 (like_append c.len_numbers.ensures.0 c.len_raw.ensures.0), search rules)

@@ -6,7 +6,7 @@ use Rattle.write_message.proofs.form.put_first.Goals as goal
 use Rattle.write_message.proofs.form.put_first.Goals.{Start}
 
 -- at the first piece: there is room for all
-room : (c : Start) → Room c.args.out.now c.args.at (first_pieces c.args.p c.args.t1.now c.args.t2.now)
+room : (c : Start) → Room c.args.out.now c.args.at (first_pieces c.args.p.now)
 room c = record { fits = c.requires }
 
 pub put_text-a-requires : goal.put_text-a-requires

@@ -7,9 +7,9 @@ use Rattle.write_message.proofs.form.put_form.Goals.{Start}
 
 ready : (c : Start) →
     let a = c.args in
-    let inside = middle a.p.list a.joined.now a.ends.now a.numbers.now a.d.now in
-    Ready (first_pieces a.p a.t1.now a.t2.now) (last_pieces a.p a.t4.now a.t5.now) a.p.inner inside a.n a.at a.out.now
-ready c = record { middle_is = c.requires.n_value.0; room = c.requires.t5_in_bounds }
+    let inside = middle a.p.now a.list.now.joined.now a.list.now.ends.now in
+    Ready (first_pieces a.p.now) (last_pieces a.p.now) a.p.now.inner inside a.n a.at a.out.now
+ready c = record { middle_is = c.requires.n_value.0; room = c.requires.form_in_bounds }
 
 pub put_first-a-requires : goal.put_first-a-requires
 put_first-a-requires c = first_fits (ready (goal.at.put_first-a-requires c).Start)
@@ -21,7 +21,7 @@ put_cover-b-requires c =
 pub put_middle-c-requires : goal.put_middle-c-requires
 put_middle-c-requires c =
     let pre = c.requires in
-    record { ends_value = pre.ends_value; d_len_bound = omega (arith, pre.n_value); d_in_bounds = middle_fits (ready (goal.at.put_middle-c-requires c).Start) c.put_first-a.ensures c.put_cover-b.ensures }
+    record { middle_len_bound = omega (arith, pre.n_value); middle_in_bounds = middle_fits (ready (goal.at.put_middle-c-requires c).Start) c.put_first-a.ensures c.put_cover-b.ensures }
 
 pub put_last-requires : goal.put_last-requires
 put_last-requires c =

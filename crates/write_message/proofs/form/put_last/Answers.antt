@@ -6,7 +6,7 @@ use Rattle.write_message.proofs.form.put_last.Goals as goal
 use Rattle.write_message.proofs.form.put_last.Goals.{Start}
 
 -- at the first piece: there is room for all
-room : (c : Start) → Room c.args.out.now c.args.at (last_pieces c.args.p c.args.t4.now c.args.t5.now)
+room : (c : Start) → Room c.args.out.now c.args.at (last_pieces c.args.p.now)
 room c = record { fits = c.requires }
 
 pub put_number-a-requires : goal.put_number-a-requires

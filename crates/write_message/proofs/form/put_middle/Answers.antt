@@ -15,20 +15,20 @@ use Rattle.write_message.proofs.form.put_middle.Goals.{Start}
 -- how long the middle is
 sizes : (c : Start) →
     let a = c.args in
-    length (middle a.f a.joined.now a.ends.now a.numbers.now a.d.now)
-    ≡ length (elements a.f (cut_at a.joined.now 0 a.ends.now)) + (length (encode (text 1 (packed a.numbers.now))) + length a.d.now)
+    length (middle a.p.now a.list.now.joined.now a.list.now.ends.now)
+    ≡ length (elements a.p.now.list (cut_at a.list.now.joined.now 0 a.list.now.ends.now)) + (length (encode (text 1 (packed a.p.now.numbers.now))) + length a.p.now.lent.now)
 sizes c = let a = c.args in
-    let list = elements a.f (cut_at a.joined.now 0 a.ends.now) in
-    let numbers = encode (text 1 (packed a.numbers.now)) in
-    omega (arith, length-append list (numbers ++ a.d.now), length-append numbers a.d.now)
+    let list = elements a.p.now.list (cut_at a.list.now.joined.now 0 a.list.now.ends.now) in
+    let numbers = encode (text 1 (packed a.p.now.numbers.now)) in
+    omega (arith, length-append list (numbers ++ a.p.now.lent.now), length-append numbers a.p.now.lent.now)
 
 pub put_list-a-requires : goal.put_list-a-requires
 put_list-a-requires c =
-    record { ends_value = c.requires.ends_value; ends_in_bounds = omega (arith, sizes (goal.at.put_list-a-requires c).Start) }
+    omega (arith, sizes (goal.at.put_list-a-requires c).Start)
 
 pub put_numbers-b-requires : goal.put_numbers-b-requires
 put_numbers-b-requires c =
-    record { numbers_len_bound = omega (arith, sizes (goal.at.put_numbers-b-requires c).Start, text_least 1 (packed c.args.numbers.now)); numbers_in_bounds = omega (arith, sizes (goal.at.put_numbers-b-requires c).Start) }
+    record { numbers_len_bound = omega (arith, sizes (goal.at.put_numbers-b-requires c).Start, text_least 1 (packed c.args.p.now.numbers.now)); numbers_in_bounds = omega (arith, sizes (goal.at.put_numbers-b-requires c).Start) }
 
 pub put_raw-requires : goal.put_raw-requires
 put_raw-requires c =

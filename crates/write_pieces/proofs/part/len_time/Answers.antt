@@ -6,9 +6,9 @@ use borrow.Author.Rules.{rules}
 use Rattle.write_pieces.proofs.part.len_time.Goals as goal
 
 pub returns-then-f-eq0 : goal.returns-then-f-eq0
-returns-then-f-eq0 c = let a = c.args in rw (time_none a.f (stamp a.seconds a.nanos) c.if-f-eq0.true) (search rules)
+returns-then-f-eq0 c = let a = c.args in rw (time_none a.f (stamp a.t.seconds a.t.nanos) c.if-f-eq0.true) (search rules)
 
 pub returns : goal.returns
 returns c =
     let a = c.args in
-    omega (arith, length_time a.f (stamp a.seconds a.nanos) _ c.if-f-eq0.false c.len_stamp-n.ensures.0)
+    omega (arith, length_time a.f (stamp a.t.seconds a.t.nanos) _ c.if-f-eq0.false c.len_stamp-n.ensures.0)

@@ -5,22 +5,6 @@ use Rattle.write_forms.specs.Pieces.{front}
 use Rattle.base_copy.proofs.Puts.{nothing}
 use Rattle.write_pieces.proofs.part.put_front.Goals as goal
 
-pub overflow_cast-four : goal.overflow_cast-four
-unfolding front
-overflow_cast-four c = search rules
-
-pub overflow_cast-four-then-framed : goal.overflow_cast-four-then-framed
-unfolding front
-overflow_cast-four-then-framed c = search rules
-
-pub overflow_cast-four-then-framed-2 : goal.overflow_cast-four-then-framed-2
-unfolding front
-overflow_cast-four-then-framed-2 c = search rules
-
-pub overflow_cast-four-then-framed-3 : goal.overflow_cast-four-then-framed-3
-unfolding front
-overflow_cast-four-then-framed-3 c = search rules
-
 pub slice_bounds-put_raw-end : goal.slice_bounds-put_raw-end
 unfolding front
 slice_bounds-put_raw-end c = search rules

@@ -8,27 +8,27 @@ use Rattle.write_pieces.proofs.part.put_time.Goals as goal
 pub returns-then-f-eq0 : goal.returns-then-f-eq0
 returns-then-f-eq0 c =
     let a = c.args in
-    rw (time_none a.f (stamp a.seconds a.nanos) c.if-f-eq0.true) (nothing a.out.now a.at (omega arith))
+    rw (time_none a.f (stamp a.t.seconds a.t.nanos) c.if-f-eq0.true) (nothing a.out.now a.at (omega arith))
 
 pub put_head-a-requires : goal.put_head-a-requires
 put_head-a-requires c =
     let a = c.args in
-    let t = stamp a.seconds a.nanos in
+    let t = stamp a.t.seconds a.t.nanos in
     omega (arith, length_time a.f t _ c.if-f-eq0.false c.len_stamp.ensures.0, length_stamp t)
 
 pub put_number-b-requires : goal.put_number-b-requires
 put_number-b-requires c =
     let a = c.args in
-    let t = stamp a.seconds a.nanos in
+    let t = stamp a.t.seconds a.t.nanos in
     omega (arith, length_time a.f t _ c.if-f-eq0.false c.len_stamp.ensures.0, length_stamp t)
 
 pub put_number-requires : goal.put_number-requires
 put_number-requires c =
     let a = c.args in
-    let t = stamp a.seconds a.nanos in
+    let t = stamp a.t.seconds a.t.nanos in
     omega (arith, length_time a.f t _ c.if-f-eq0.false c.len_stamp.ensures.0, length_stamp t)
 
 pub returns : goal.returns
 returns c =
     let a = c.args in
-    rw (time_some a.f (stamp a.seconds a.nanos) c.if-f-eq0.false, ← c.len_stamp.ensures.0) (search puts)
+    rw (time_some a.f (stamp a.t.seconds a.t.nanos) c.if-f-eq0.false, ← c.len_stamp.ensures.0) (search puts)

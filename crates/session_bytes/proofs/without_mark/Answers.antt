@@ -1,9 +1,0 @@
--- Hands the test against 8 to the contract's `pick`, by `le-leb` and `lt-leb`.
-use borrow.Author.Tests.{le-leb, lt-leb}
-use Rattle.session_bytes.proofs.without_mark.Goals as goal
-
-pub returns-then-n-ge8 : goal.returns-then-n-ge8
-returns-then-n-ge8 c = rw (le-leb _ _ c.if-n-ge8.true)
-
-pub returns : goal.returns
-returns c = rw (lt-leb _ _ c.if-n-ge8.false)
