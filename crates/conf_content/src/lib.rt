@@ -203,9 +203,9 @@ fn shape_of(text: &[u8], at: usize, m: Measure) -> Result<Option<Shape>, Malform
 pub fn read_line(text: &[u8], c: Cursor) -> LineRead
     ensures { Read text.now c result }
 {
-    let at = c.at;
     let p = measure_line(text, c);
-    let next = p.next;
-    let shape = shape_of(text, at, p.measure);
-    LineRead { shape, next }
+    LineRead {
+        shape: shape_of(text, c.at, p.measure),
+        next: p.next,
+    }
 }

@@ -6,7 +6,7 @@ ghost use Rattle.std.specs.Prelude.{◌≤◌, ◌≡◌};
 pub struct Cursor {
     pub at: usize,
     pub feeds: usize,
-    // each of them is a byte before it
+    // each of them is a byte before it. Literals name both fields: `..c` is not supported where a struct has a ghost field
     ghost sound: { feeds ≤ at },
 }
 

@@ -82,32 +82,35 @@ fn past_join(text: &[u8], c: Cursor) -> Cursor
     ensures { Same text.now c (scanned passing (drop c.at text.now)) result }
 {
     let next = past_line(text, c);
-    let feeds = next.feeds;
     let at = past_blanks(text, next.at);
-    Cursor { at, feeds }
+    Cursor {
+        at,
+        feeds: next.feeds,
+    }
 }
 
 // The byte at a cursor: of the line, its end, or a join.
 fn pass_byte(text: &[u8], c: Cursor) -> Pass
     ensures { Passed text.now c result }
 {
-    let at = c.at;
-    let feeds = c.feeds;
-    if text.len() <= at {
+    if text.len() <= c.at {
         return Pass::Stepped(Step::End(c));
     }
-    let b = text[at];
+    let b = text[c.at];
     if b == b'\n' {
         return Pass::Stepped(Step::End(Cursor {
-            at: at + 1,
-            feeds: feeds + 1,
+            at: c.at + 1,
+            feeds: c.feeds + 1,
         }));
     }
     if b == b'#' {
         return Pass::Stepped(Step::End(past_line(text, c)));
     }
-    let next = Cursor { at: at + 1, feeds };
-    if b == b'\\' && piece_ends(text, at + 1) {
+    let next = Cursor {
+        at: c.at + 1,
+        feeds: c.feeds,
+    };
+    if b == b'\\' && piece_ends(text, c.at + 1) {
         return Pass::Join(past_join(text, next));
     }
     Pass::Stepped(Step::Byte(b, next))
@@ -135,11 +138,10 @@ fn step_past_joins(text: &[u8], c: Cursor) -> Step
 pub fn next_byte(text: &[u8], c: Cursor) -> Step
     ensures { Stepped text.now c result }
 {
-    let at = c.at;
-    if text.len() <= at {
+    if text.len() <= c.at {
         return Step::End(c);
     }
-    let b = text[at];
+    let b = text[c.at];
     if b == b'\n' {
         return step_past_joins(text, c);
     }
@@ -149,18 +151,22 @@ pub fn next_byte(text: &[u8], c: Cursor) -> Step
     if b == b'\\' {
         return step_past_joins(text, c);
     }
-    let feeds = c.feeds;
-    Step::Byte(b, Cursor { at: at + 1, feeds })
+    Step::Byte(
+        b,
+        Cursor {
+            at: c.at + 1,
+            feeds: c.feeds,
+        },
+    )
 }
 
 // At the start of a line of the text: blanks go, and a `;` then makes it a remark.
 pub fn line_start(text: &[u8], c: Cursor) -> Start
     ensures { Started text.now c result }
 {
-    let feeds = c.feeds;
     let at = past_blanks(text, c.at);
     if at < text.len() && text[at] == b';' {
         return Start::Remark(past_line(text, c));
     }
-    Start::Line(Cursor { at, feeds })
+    Start::Line(Cursor { at, feeds: c.feeds })
 }

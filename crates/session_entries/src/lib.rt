@@ -35,9 +35,7 @@ fn is_key(a: &[u8], k: u8) -> bool
 fn has_key(s: &[u8], k: u8) -> bool
     ensures { result ≡ same_bytes (m.entry (items s.now)).key (key_bytes k) }
 {
-    let p = part_in(s, 1);
-    let start = p.start;
-    let end = p.end;
+    let Span { start, end } = part_in(s, 1);
     is_key(&s[start..end], k)
 }
 

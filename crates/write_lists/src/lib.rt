@@ -1,4 +1,5 @@
-// Lists of strings, lent as joined bytes and ends, and packed numbers. Inner, as the functions of `write_pieces` are, but for `ends_fit`.
+// Lists of strings, lent as joined bytes and ends, and packed numbers. Inner, as the functions of `write_pieces` are, but for `ends_fit`
+// and `Strings::new`, which ask nothing.
 #![tactic(auto)]
 
 ghost use Rattle.std.specs.Prelude.{◌≡◌, ◌+◌, ◌≤◌, false, not, length, is_some, IfSome};

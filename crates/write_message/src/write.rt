@@ -13,6 +13,7 @@ use write_lists::Strings;
 use write_pieces::part::{MESSAGE_LIMIT, len_cover, len_front, put_cover, put_front};
 
 // Refuses a message of n bytes: with 1 where it is too long, with 12 where it and its frame have no room.
+#[tactic(auto, using(base_laws::proofs::Tests::tests), unfolding(write_forms::specs::Outcome::room_refusal))]
 fn room_for(framed: bool, n: usize, room: usize) -> Result<(), WriteError>
     ensures { result ≡ room_for framed n room }
 {

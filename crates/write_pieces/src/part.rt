@@ -124,6 +124,7 @@ pub fn len_front(framed: bool) -> usize
 }
 
 // The four bytes before a frame's message of n bytes, most significant first.
+#[tactic(auto, unfolding(write_forms::specs::Pieces::front))]
 pub fn put_front(out: &mut [u8], framed: bool, n: usize) -> usize
     requires { length (front framed n) ≤ length out.old }
     ensures { Put out.old 0 (front framed n) out.new result }

@@ -3,12 +3,12 @@ use Rattle.conf_lines.proofs.Cursors.{over_end, gives}
 use Rattle.conf_lines.proofs.Steps.{other_emits}
 use Rattle.conf_lines.proofs.next_byte.Goals as goal
 
-pub returns-then-text-at : goal.returns-then-text-at
-returns-then-text-at c =
+pub returns-then-text-c : goal.returns-then-text-c
+returns-then-text-c c =
     let a = c.args in
-    over_end a.text.now a.c c.if-text-at.true
+    over_end a.text.now a.c c.if-text-c.true
 
 pub returns : goal.returns
 returns c =
     let a = c.args in
-    gives a.text.now a.c c.if-text-at.false (other_emits _ _ c.if-b-eq10.false c.if-b-eq35.false c.if-b-eq92.false) _
+    gives a.text.now a.c c.if-text-c.false (other_emits _ _ c.if-b-eq10.false c.if-b-eq35.false c.if-b-eq92.false) _

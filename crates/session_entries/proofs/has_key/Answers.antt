@@ -9,15 +9,15 @@ use Rattle.wire_fields.proofs.Items.{bytes_means}
 use Rattle.session_entries.proofs.has_key.Goals as goal
 
 pub slice_bounds-is_key-count : goal.slice_bounds-is_key-count
-slice_bounds-is_key-count c = let s = c.args.s.now in rw c.part_in-p.ensures (span_in_bounds s 1).0
+slice_bounds-is_key-count c = let s = c.args.s.now in rw c.part_in-start.ensures (span_in_bounds s 1).0
 
 pub slice_bounds-is_key-start : goal.slice_bounds-is_key-start
-slice_bounds-is_key-start c = let s = c.args.s.now in rw c.part_in-p.ensures (let h = span_in_bounds s 1 in omega arith)
+slice_bounds-is_key-start c = let s = c.args.s.now in rw c.part_in-start.ensures (let h = span_in_bounds s 1 in omega arith)
 
 pub slice_bounds-is_key-end : goal.slice_bounds-is_key-end
-slice_bounds-is_key-end c = let s = c.args.s.now in rw c.part_in-p.ensures (let h = span_in_bounds s 1 in omega arith)
+slice_bounds-is_key-end c = let s = c.args.s.now in rw c.part_in-start.ensures (let h = span_in_bounds s 1 in omega arith)
 
 pub returns : goal.returns
 unfolding entry
 returns c = let a = c.args in
-    (rw c.part_in-p.ensures at c.is_key.ensures) ∙ ap (λ (d : Bytes). same_bytes d (key_bytes a.k)) (bytes_means a.s.now 1)
+    (rw c.part_in-start.ensures at c.is_key.ensures) ∙ ap (λ (d : Bytes). same_bytes d (key_bytes a.k)) (bytes_means a.s.now 1)

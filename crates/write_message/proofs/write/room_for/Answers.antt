@@ -1,16 +1,11 @@
 -- `Front-length` is what len_front ensures; with it each case is a test of the definition `room_refusal`.
 use Rattle.write_forms.specs.Pieces.{front}
 use Rattle.write_forms.specs.Outcome.{room_refusal}
-use Rattle.base_laws.proofs.Tests.{tests}
 use borrow.Author.Tests.{lt-ltb, le-ltb}
 use lib.ListN.{length}
 use native.Mathlib.Omega.{arith}
 use Prim.Native.Nat.{◌+◌, ◌≤◌, ◌<◌}
 use Rattle.write_message.proofs.write.room_for.Goals as goal
-
-pub returns-then-n-gt-MESSAGE_LIMIT : goal.returns-then-n-gt-MESSAGE_LIMIT
-unfolding room_refusal
-returns-then-n-gt-MESSAGE_LIMIT c = search tests
 
 pub returns-then-room-len_front : goal.returns-then-room-len_front
 unfolding room_refusal

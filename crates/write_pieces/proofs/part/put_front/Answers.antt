@@ -5,17 +5,9 @@ use Rattle.write_forms.specs.Pieces.{front}
 use Rattle.base_copy.proofs.Puts.{nothing}
 use Rattle.write_pieces.proofs.part.put_front.Goals as goal
 
-pub slice_bounds-put_raw-end : goal.slice_bounds-put_raw-end
-unfolding front
-slice_bounds-put_raw-end c = search rules
-
 pub put_raw-requires : goal.put_raw-requires
 unfolding front
 put_raw-requires c = omega (arith, simp c.if-framed.true at c.requires)
-
-pub shape_of-out-then-framed : goal.shape_of-out-then-framed
-unfolding front
-shape_of-out-then-framed c = search rules
 
 pub returns-then-framed : goal.returns-then-framed
 unfolding front
