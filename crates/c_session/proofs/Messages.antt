@@ -6,7 +6,7 @@ use lib.ListN.{length}
 use borrow.Author.Tests.{le-leb, lt-leb}
 use Rattle.wire_message.specs.Message.{Bytes}
 use Rattle.base_numbers.specs.Eight.{laid}
-use Rattle.session.specs.Refusals.{number, key, point}
+use Rattle.session.specs.Refusals.{number, key}
 use Rattle.session.specs.Step.{Outcome, outcome, in_state, refuse, step}
 use Rattle.session_turn.specs.declared.State.TheVariants.{Closed}
 use Rattle.session.specs.declared.Session.{Session}
@@ -43,7 +43,7 @@ module _ (slice message area : Bytes) (used : ℕ) (out : Bytes) where
     is h = gives ∙ ap (λ (x : Session). step x area used message) loaded ∙ rw (le-leb 40 (length out) h)
 
     pub answered : 40 ≤ length out → (r n1 p q n : ℕ) → r ≡ number a.result → slice' ≡ kept a.session slice → n1 ≡ key a.result
-        → p ≡ has_point (point a.result) → q ≡ point_number (point a.result) → n ≡ state_number a.session.state
+        → p ≡ has_point a.point → q ≡ point_number a.point → n ≡ state_number a.session.state
         → out' ≡ laid (a.used ∷ n1 ∷ p ∷ q ∷ n ∷ []) out → Answered r slice' area' out'
     unfolding message_answer message_slice message_area message_out answer_numbers
     answered h r n1 p q n told saved named has place state laying = (
@@ -55,8 +55,8 @@ module _ (slice message area : Bytes) (used : ℕ) (out : Bytes) where
           laying
               ∙ ap (λ (x : ℕ). laid (a.used ∷ x ∷ p ∷ q ∷ n ∷ []) out) named
               ∙ ap (λ (x : ℕ). laid (a.used ∷ key a.result ∷ x ∷ q ∷ n ∷ []) out) has
-              ∙ ap (λ (x : ℕ). laid (a.used ∷ key a.result ∷ has_point (point a.result) ∷ x ∷ n ∷ []) out) place
-              ∙ ap (λ (x : ℕ). laid (a.used ∷ key a.result ∷ has_point (point a.result) ∷ point_number (point a.result) ∷ x ∷ []) out) state
+              ∙ ap (λ (x : ℕ). laid (a.used ∷ key a.result ∷ has_point a.point ∷ x ∷ n ∷ []) out) place
+              ∙ ap (λ (x : ℕ). laid (a.used ∷ key a.result ∷ has_point a.point ∷ point_number a.point ∷ x ∷ []) out) state
               ∙ ap (λ (o : Outcome). laid (answer_numbers o) out) (is h),
         ),
       ),

@@ -7,7 +7,7 @@ ghost use Rattle.conf_lines.specs.Span.{spanned, Within};
 ghost use Rattle.conf_typed.specs.Typed.{section_name, lower};
 ghost use Rattle.conf_typed.specs.Read.{cased};
 ghost use Rattle.conf_list.specs.Listing.{four, counted, entry};
-ghost use Rattle.conf_list.specs.Entry.{setting_of, room_for};
+ghost use Rattle.conf_list.specs.Entry.{setting_of, room_in, room_for};
 
 use base_copy::put_raw;
 use conf_lines::cursor::Cursor;
@@ -17,11 +17,10 @@ use conf_typed::{Section, cased_byte};
 
 // ---- how long it is
 
-// The room that is left after a setting whose key and value are so long: none where it does not fit, or one before it did not.
-pub fn room_after(room: Option<usize>, section: Section, key: usize, value: usize) -> Option<usize>
-    ensures { result ≡ room_for room section key value }
+// What is left of a number of bytes behind a setting whose key and value are so long: none where it does not fit.
+fn room_behind(left: usize, section: Section, key: usize, value: usize) -> Option<usize>
+    ensures { result ≡ room_in left section key value }
 {
-    let left = room?;
     if 4294967295 < key {
         return None;
     }
@@ -33,6 +32,23 @@ pub fn room_after(room: Option<usize>, section: Section, key: usize, value: usiz
         return None;
     }
     Some(left - size)
+}
+
+// The room that is left after a setting whose key and value are so long: `Ok` where all so far fits, `Err` where something did not. What does
+// not fit takes nothing.
+#[tactic(auto, unfolding(crate::specs::Entry::room_for))]
+pub fn room_after(
+    room: Result<usize, usize>,
+    section: Section,
+    key: usize,
+    value: usize,
+) -> Result<usize, usize>
+    ensures { result ≡ room_for room section key value }
+{
+    match room {
+        Ok(left) => room_behind(left, section, key, value).ok_or(left),
+        Err(left) => Err(room_behind(left, section, key, value).unwrap_or(left)),
+    }
 }
 
 // ---- its bytes

@@ -15,7 +15,7 @@ use Rattle.conf_read.specs.Config.{Statement, sets, refuses, Verdict, refused_at
 use Rattle.conf_read.specs.Passes.{start_tally, survey_of, Good, listed}
 use Rattle.conf_read.specs.declared.survey.Tally.{Tally}
 use Rattle.std.specs.Prelude.{Result, Ok, Err}
-use Rattle.std.specs.Option.{is_some}
+use Rattle.std.specs.Result.{is_ok}
 use Rattle.conf_read.specs.Refusals.{bad_line, refused as as_error}
 use Rattle.conf_read.specs.declared.refusal.BadLine.{BadLine}
 use Rattle.conf_read.specs.declared.refusal.ConfigError.TheVariants.{NoRoom}
@@ -76,8 +76,8 @@ module _ (text out : Bytes) where
   whole t e = taken_by all t refl (surveyed (Ok t) e)
 
   module _ {t : Tally} (k : Taken t) where
-    room_is : is_some t.room ≡ fits k.settings (length out)
-    room_is = ap (λ (x : Tally). is_some x.room) k.tally ∙ all_room (start_tally (length out)) k.settings
+    room_is : is_ok t.room ≡ fits k.settings (length out)
+    room_is = ap (λ (x : Tally). is_ok x.room) k.tally ∙ all_room (start_tally (length out)) k.settings
 
     values_are : t.values ≡ values_from defaults k.settings
     values_are = ap (λ (x : Tally). x.values) k.tally ∙ all_values (start_tally (length out)) k.settings
@@ -88,15 +88,15 @@ module _ (text out : Bytes) where
     pub all_good : Good (statements_of text)
     all_good = cleaned.good
 
-    pub has_room : is_some t.room ≡ true → length (listing (listed (statements_of text))) ≤ length out
+    pub has_room : is_ok t.room ≡ true → length (listing (listed (statements_of text))) ≤ length out
     unfolding fits
     has_room h = rw cleaned.same (leb-true (length (listing k.settings)) (length out) (both_true (all_short k.settings) _ (sym room_is ∙ h)).1)
 
-    pub no_room : is_some t.room ≡ false → (Err NoRoom ≡ config_answer text out) × (out ≡ config_out text out)
+    pub no_room : is_ok t.room ≡ false → (Err NoRoom ≡ config_answer text out) × (out ≡ config_out text out)
     unfolding config_answer config_out answer_of out_of
     no_room h = let e : fits k.settings (length out) ≡ false = sym room_is ∙ h in (rw (k.verdict, e) refl, rw (k.verdict, e) refl)
 
-    pub stored : {out' : Bytes} {n : ℕ} → is_some t.room ≡ true → Put out 0 (listing (listed (statements_of text))) out' n
+    pub stored : {out' : Bytes} {n : ℕ} → is_ok t.room ≡ true → Put out 0 (listing (listed (statements_of text))) out' n
         → (Ok (record { size = n; values = t.values }) ≡ config_answer text out) × (out' ≡ config_out text out)
     unfolding config_answer config_out answer_of out_of
     stored {out'} {n} h p =

@@ -21,8 +21,9 @@ use Rattle.conf_read.specs.Config.{Statement, sets, refuses, is_unknown, is_wron
 use Rattle.conf_read.specs.Passes.{ahead, tallied, survey_of, LineAt, turn_set, as_turn, turn_of, surveyed_of, Surveys}
 use Rattle.conf_read.specs.declared.survey.Tally.{Tally}
 use Rattle.conf_read.specs.declared.survey.Place.{Place}
-use Rattle.std.specs.Prelude.{Option, Some, None, Result, Ok, Err}
-use Rattle.std.specs.Option.{is_some}
+use Rattle.std.specs.Prelude.{Some, None, Result, Ok, Err}
+use Rattle.std.specs.Option.{ok_or}
+use Rattle.std.specs.Result.{is_ok}
 use Rattle.conf_read.specs.Refusals.{bad_line}
 use Rattle.conf_read.specs.declared.refusal.ConfRefusal.TheVariants.{NoSection, BadValue}
 use Rattle.conf_read.specs.declared.refusal.BadLine.{BadLine}
@@ -133,23 +134,23 @@ more_room a b c d n m l e = go a b c (sym e)
         lose false d = refl
 
 -- do these settings fit in what is left
-abbrev pub fits_in : List Setting → Option ℕ → Bool
-fits_in ss (Some n) = fits ss n
-fits_in ss None = false
+abbrev pub fits_in : List Setting → Result ℕ ℕ → Bool
+fits_in ss (Ok n) = fits ss n
+fits_in ss (Err n) = false
 
-by_test : (n : ℕ) (ss : List Setting) (b : Bool) → fits_in ss (pick b (Some n) None) ≡ pick b (fits ss n) false
-by_test n ss true = refl
-by_test n ss false = refl
+by_test : (l n : ℕ) (ss : List Setting) (b : Bool) → fits_in ss (ok_or (pick b (Some n) None) l) ≡ pick b (fits ss n) false
+by_test l n ss true = refl
+by_test l n ss false = refl
 
-after_room : (r : Option ℕ) (s : Setting) (ss : List Setting)
+after_room : (r : Result ℕ ℕ) (s : Setting) (ss : List Setting)
     → fits_in ss (room_for r s.section (length s.key) (length s.value)) ≡ fits_in (s ∷ ss) r
 unfolding room_for fits all_short is_short listing
-after_room None s ss = refl
-after_room (Some l) s ss =
+after_room (Err l) s ss = refl
+after_room (Ok l) s ss =
     let n = size_of s.section (length s.key) (length s.value) in
     let short = both (leb (length s.key) 4294967295) (leb (length s.value) 4294967295) in
     let e : length (entry s ++ listing ss) ≡ n + length (listing ss) = length-append (entry s) (listing ss) ∙ ap (λ (k : ℕ). k + length (listing ss)) (entry_length s) in
-    by_test (l - n) ss (both short (leb n l))
+    by_test l (l - n) ss (both short (leb n l))
     ∙ sym (more_room true short (leb n l) (all_short ss) n (length (listing ss)) l refl)
     ∙ ap (λ (k : ℕ). both (both short (all_short ss)) (leb k l)) (sym e)
 
@@ -157,11 +158,11 @@ none_fits : (l : ℕ) → fits [] l ≡ true
 unfolding fits all_short listing
 none_fits l = le-leb 0 l (omega arith)
 
-some_room : (r : Option ℕ) → is_some r ≡ fits_in [] r
-some_room (Some l) = sym (none_fits l)
-some_room None = refl
+some_room : (r : Result ℕ ℕ) → is_ok r ≡ fits_in [] r
+some_room (Ok l) = sym (none_fits l)
+some_room (Err l) = refl
 
-pub all_room : (t : Tally) (ss : List Setting) → is_some (tallied_all t ss).room ≡ fits_in ss t.room
+pub all_room : (t : Tally) (ss : List Setting) → is_ok (tallied_all t ss).room ≡ fits_in ss t.room
 unfolding tallied_all tallied
 all_room t [] = some_room t.room
 all_room t (s ∷ ss) = all_room (tallied t s) ss ∙ after_room t.room s ss

@@ -1,12 +1,11 @@
 -- A configuration read: its settings, its typed values, or why it is refused. Each definition names its sentence of request 1 of document 02.
-use Rattle.std.specs.Prelude.{ℕ, List, [], ◌∷◌, Bool, true, false, length, leb, Option, Some, None, Result, Ok, Err}
+use Rattle.std.specs.Prelude.{ℕ, List, [], ◌∷◌, Bool, true, false, length, leb, Some, None, Result, Ok, Err}
 use Rattle.base_laws.specs.Base.{pick, both, splice}
 use Rattle.conf_lines.specs.Lines.{Bytes, Line, lines_at}
 use Rattle.conf_content.specs.Content.{Content, empty, section, setting, bad, content_of}
 use Rattle.conf_typed.specs.Typed.{Reading, lower, section_of, typed_of}
 use Rattle.conf_typed.specs.declared.Section.{Section}
 use Rattle.conf_typed.specs.declared.Section.TheVariants.{Server, Relay, Iolog, Eventlog, Syslog, Logfile, Unknown}
-use Rattle.conf_typed.specs.declared.Typed.{Typed}
 use Rattle.conf_typed.specs.declared.Typed.TheVariants.{Timeout, Keepalive, Maxseq}
 use Rattle.conf_list.specs.Listing.{Setting, listing, all_short}
 use Rattle.conf_read.specs.declared.values.Link.{Link}
@@ -87,19 +86,22 @@ default_link = record { timeout = 30; keepalive = true }
 abbrev pub defaults : Values
 defaults = record { server = default_link; relay = default_link; maxseq = 2176782336 }
 
-unfoldable pub link_with : Link → Option Typed → Link
-link_with l None = l
-link_with l (Some (Timeout n)) = record { timeout = n; keepalive = l.keepalive }
-link_with l (Some (Keepalive b)) = record { timeout = l.timeout; keepalive = b }
-link_with l (Some (Maxseq n)) = l
+-- a setting that is not typed, or whose value is bad, changes nothing
+unfoldable pub link_with : Link → Reading → Link
+link_with l (Ok None) = l
+link_with l (Ok (Some (Timeout n))) = record { timeout = n; keepalive = l.keepalive }
+link_with l (Ok (Some (Keepalive b))) = record { timeout = l.timeout; keepalive = b }
+link_with l (Ok (Some (Maxseq n))) = l
+link_with l (Err e) = l
 
-unfoldable pub maxseq_with : ℕ → Option Typed → ℕ
-maxseq_with m None = m
-maxseq_with m (Some (Timeout n)) = m
-maxseq_with m (Some (Keepalive b)) = m
-maxseq_with m (Some (Maxseq n)) = n
+unfoldable pub maxseq_with : ℕ → Reading → ℕ
+maxseq_with m (Ok None) = m
+maxseq_with m (Ok (Some (Timeout n))) = m
+maxseq_with m (Ok (Some (Keepalive b))) = m
+maxseq_with m (Ok (Some (Maxseq n))) = n
+maxseq_with m (Err e) = m
 
-unfoldable pub values_with : Values → Section → Option Typed → Values
+unfoldable pub values_with : Values → Section → Reading → Values
 values_with vs Server t = record { server = link_with vs.server t; relay = vs.relay; maxseq = vs.maxseq }
 values_with vs Relay t = record { server = vs.server; relay = link_with vs.relay t; maxseq = vs.maxseq }
 values_with vs Iolog t = record { server = vs.server; relay = vs.relay; maxseq = maxseq_with vs.maxseq t }
@@ -108,15 +110,10 @@ values_with vs Syslog t = vs
 values_with vs Logfile t = vs
 values_with vs Unknown t = vs
 
--- the value of a typed setting, where it has a good one
-abbrev pub good_value : Reading → Option Typed
-good_value (Ok t) = t
-good_value (Err e) = None
-
 -- "its last typed reading counts"
 unfoldable pub values_from : Values → List Setting → Values
 values_from vs [] = vs
-values_from vs (s ∷ ss) = values_from (values_with vs s.section (good_value (typed_of s.section s.key s.value))) ss
+values_from vs (s ∷ ss) = values_from (values_with vs s.section (typed_of s.section s.key s.value)) ss
 
 -- ---- the answer and the buffer
 

@@ -1,5 +1,5 @@
 -- The two passes over a text: what the first one adds up, and where both stand. Inner.
-use Rattle.std.specs.Prelude.{ℕ, ◌+◌, ◌<◌, ◌≡◌, List, [], ◌∷◌, ◌++◌, length, drop, Some, Result, Ok, Err}
+use Rattle.std.specs.Prelude.{ℕ, ◌+◌, ◌<◌, ◌≡◌, List, [], ◌∷◌, ◌++◌, length, drop, Result, Ok, Err}
 use Rattle.base_laws.specs.Base.{All}
 use Rattle.base_copy.specs.Put.{Put}
 use Rattle.conf_lines.specs.Lines.{Bytes, lines_at}
@@ -11,7 +11,7 @@ use Rattle.conf_typed.specs.Typed.{lower, section_of, typed_of}
 use Rattle.conf_typed.specs.declared.Section.{Section}
 use Rattle.conf_list.specs.Listing.{Setting, listing}
 use Rattle.conf_list.specs.Entry.{room_for}
-use Rattle.conf_read.specs.Config.{Statement, sets, refuses, setting_in, on_content, statements, defaults, good_value, values_with}
+use Rattle.conf_read.specs.Config.{Statement, sets, refuses, setting_in, on_content, statements, defaults, values_with}
 use Rattle.conf_read.specs.Refusals.{bad_line}
 use Rattle.conf_read.specs.declared.refusal.ConfRefusal.{ConfRefusal}
 use Rattle.conf_read.specs.declared.refusal.ConfRefusal.TheVariants.{Malformed}
@@ -29,7 +29,7 @@ ahead s c t = statements t (lines_at (c.feeds + 1) (drop c.at s))
 -- a setting more
 unfoldable pub tallied : Tally → Setting → Tally
 tallied t s = record {
-  values = values_with t.values s.section (good_value (typed_of s.section s.key s.value));
+  values = values_with t.values s.section (typed_of s.section s.key s.value);
   room = room_for t.room s.section (length s.key) (length s.value);
 }
 
@@ -40,7 +40,7 @@ survey_of t (refuses r n ∷ ss) = Err (bad_line r n)
 survey_of t (sets s ∷ ss) = survey_of (tallied t s) ss
 
 abbrev pub start_tally : (room : ℕ) → Tally
-start_tally n = record { values = defaults; room = Some n }
+start_tally n = record { values = defaults; room = Ok n }
 
 -- ---- one line
 

@@ -87,7 +87,7 @@ pub fn read_config(text: &[u8], out: &mut [u8]) -> Result<Config, ConfigError>
     ensures out { out.new ≡ config_out text.now out.old }
 {
     let tally = survey_text(text, out.len())?;
-    if tally.room.is_none() {
+    if tally.room.is_err() {
         return Err(ConfigError::NoRoom);
     }
     let size = write_list(out, text);

@@ -15,11 +15,11 @@ use conf_lines::{Start, line_start};
 use conf_list::room_after;
 use conf_typed::{Section, section_of, typed_of};
 
-// What is added up of the settings so far: the room that is left is none where one of them did not fit.
+// What is added up of the settings so far, with the room that is left: `Ok` where all of them fit, `Err` where one did not.
 #[derive(Clone, Copy)]
 pub struct Tally {
     pub values: Values,
-    pub room: Option<usize>,
+    pub room: Result<usize, usize>,
 }
 
 // What a good line does: nothing, it opens a section, or it adds a setting.
@@ -73,7 +73,7 @@ fn take_setting(
         return Err(ConfRefusal::NoSection);
     }
     let typed = typed_of(text, section, k, v)?;
-    let values = values_with(t.values, section, typed);
+    let values = values_with(t.values, section, Ok(typed));
     let room = room_after(t.room, section, k.length, v.length);
     Ok(Tally { values, room })
 }
@@ -133,7 +133,7 @@ fn start_tally(room: usize) -> Tally
 {
     Tally {
         values: default_values(),
-        room: Some(room),
+        room: Ok(room),
     }
 }
 

@@ -2,7 +2,7 @@
 ghost use Rattle.std.specs.Prelude.{◌≡◌};
 ghost use Rattle.conf_read.specs.Config.{defaults, link_with, maxseq_with, values_with};
 
-use conf_typed::{Section, Typed};
+use conf_typed::{BadValue, Section, Typed};
 
 // What `server` and `relay` each have.
 #[derive(Clone, Copy)]
@@ -34,31 +34,34 @@ pub fn default_values() -> Values
 }
 
 #[tactic(auto, unfolding(crate::specs::Config::link_with))]
-fn link_with(l: Link, t: Option<Typed>) -> Link
+fn link_with(l: Link, t: Result<Option<Typed>, BadValue>) -> Link
     ensures { result ≡ link_with l t }
 {
     match t {
-        Some(Typed::Timeout(timeout)) => Link { timeout, ..l },
-        Some(Typed::Keepalive(keepalive)) => Link { keepalive, ..l },
-        Some(Typed::Maxseq(_)) => l,
-        None => l,
+        Ok(Some(Typed::Timeout(timeout))) => Link { timeout, ..l },
+        Ok(Some(Typed::Keepalive(keepalive))) => Link { keepalive, ..l },
+        Ok(Some(Typed::Maxseq(_))) => l,
+        Ok(None) => l,
+        Err(_) => l,
     }
 }
 
 #[tactic(auto, unfolding(crate::specs::Config::maxseq_with))]
-fn maxseq_with(m: u64, t: Option<Typed>) -> u64
+fn maxseq_with(m: u64, t: Result<Option<Typed>, BadValue>) -> u64
     ensures { result ≡ maxseq_with m t }
 {
     match t {
-        Some(Typed::Timeout(_)) => m,
-        Some(Typed::Keepalive(_)) => m,
-        Some(Typed::Maxseq(n)) => n,
-        None => m,
+        Ok(Some(Typed::Timeout(_))) => m,
+        Ok(Some(Typed::Keepalive(_))) => m,
+        Ok(Some(Typed::Maxseq(n))) => n,
+        Ok(None) => m,
+        Err(_) => m,
     }
 }
 
+// The values after a setting that is read so: one that is not typed, or whose value is bad, changes none.
 #[tactic(auto, unfolding(crate::specs::Config::values_with))]
-pub fn values_with(vs: Values, section: Section, t: Option<Typed>) -> Values
+pub fn values_with(vs: Values, section: Section, t: Result<Option<Typed>, BadValue>) -> Values
     ensures { result ≡ values_with vs section t }
 {
     match section {

@@ -3,14 +3,13 @@
 ghost use Rattle.std.specs.Prelude.{◌≡◌, [], ◌+◌, ◌≤◌, length};
 ghost use Rattle.base_copy.specs.Put.{Put};
 ghost use Rattle.session.specs.Step.{outcome};
-ghost use Rattle.session.specs.Refusals.{number, key};
 ghost use Rattle.replay_text.specs.Names.{shown_member};
 ghost use Rattle.replay_lines.specs.Wording.{heading, verdict, standing, point_text, key_text, frame_line, written, line_length};
 
 use base_copy::put_raw;
 use replay_text::names::{member_of, put_member, put_state};
 use replay_text::numbers::{put_decimal, put_nine};
-use session::{Answer, Refusal};
+use session::Answer;
 use session_turn::State;
 
 fn put_heading(out: &mut [u8], n: u64) -> usize
@@ -22,20 +21,16 @@ fn put_heading(out: &mut [u8], n: u64) -> usize
     put_raw(out, b, b": ")
 }
 
-fn put_verdict(out: &mut [u8], at: usize, member: u64, given: Result<Option<u64>, Refusal>) -> usize
+fn put_verdict(out: &mut [u8], at: usize, member: u64, refusal: u8) -> usize
     requires { at + 28 ≤ length out.old }
-    ensures { (Put out.old at (verdict member (number given)) out.new result) × (result ≤ at + 28) }
+    ensures { (Put out.old at (verdict member refusal) out.new result) × (result ≤ at + 28) }
 {
-    match given {
-        Ok(_) => {
-            let a = put_member(out, at, member);
-            put_raw(out, a, b" taken")
-        }
-        Err(refusal) => {
-            let a = put_raw(out, at, b"refused ");
-            put_decimal(out, a, u64::from(u8::from(refusal)))
-        }
+    if refusal == 0 {
+        let a = put_member(out, at, member);
+        return put_raw(out, a, b" taken");
     }
+    let a = put_raw(out, at, b"refused ");
+    put_decimal(out, a, u64::from(refusal))
 }
 
 fn put_standing(out: &mut [u8], at: usize, state: State, used: usize) -> usize
@@ -61,20 +56,15 @@ fn put_point(out: &mut [u8], at: usize, point: Option<u64>) -> usize
     put_nine(out, c, t % 1000000000)
 }
 
-fn put_key(out: &mut [u8], at: usize, given: Result<Option<u64>, Refusal>) -> usize
+fn put_key(out: &mut [u8], at: usize, refusal: u8, key: u8) -> usize
     requires { at + 26 ≤ length out.old }
-    ensures { (Put out.old at (key_text (number given) (key given)) out.new result) × (result ≤ at + 26) }
+    ensures { (Put out.old at (key_text refusal key) out.new result) × (result ≤ at + 26) }
 {
-    let Err(refusal) = given else {
-        return at;
-    };
-    match refusal {
-        Refusal::Missing(key) => {
-            let a = put_raw(out, at, b", key ");
-            put_decimal(out, a, u64::from(key))
-        }
-        _ => at,
+    if refusal == 8 {
+        let a = put_raw(out, at, b", key ");
+        return put_decimal(out, a, u64::from(key));
     }
+    at
 }
 
 fn put_frame(out: &mut [u8], n: u64, member: u64, answer: Answer) -> usize
@@ -82,10 +72,10 @@ fn put_frame(out: &mut [u8], n: u64, member: u64, answer: Answer) -> usize
     ensures { Put out.old 0 (frame_line n member (outcome answer [])) out.new result }
 {
     let a = put_heading(out, n);
-    let b = put_verdict(out, a, member, answer.result);
+    let b = put_verdict(out, a, member, answer.refusal());
     let c = put_standing(out, b, answer.session.state, answer.used);
-    let d = put_point(out, c, answer.point());
-    let e = put_key(out, d, answer.result);
+    let d = put_point(out, c, answer.point);
+    let e = put_key(out, d, answer.refusal(), answer.key());
     put_raw(out, e, b"\n")
 }
 

@@ -12,22 +12,22 @@ returns-in_err-tally c =
     let both = refused a.text.now a.out.now _ (sym c.in_err-tally.was ∙ c.survey_text.ensures) in
     record { answer = rw (p.1, p.2) both.0; out = both.1 }
 
-pub returns-then-is_none : goal.returns-then-is_none
-returns-then-is_none c =
+pub returns-then-is_err : goal.returns-then-is_err
+returns-then-is_err c =
     let a = c.args in
     let k = whole a.text.now a.out.now _ (sym c.in_ok-tally.was ∙ c.survey_text.ensures) in
-    let both = no_room a.text.now a.out.now k (c.is_none.ensures ∙ ap not c.if-is_none.true) in
+    let both = no_room a.text.now a.out.now k (c.is_err.ensures.negation ∙ ap not c.if-is_err.true) in
     record { answer = both.0; out = both.1 }
 
 pub write_list-size-requires : goal.write_list-size-requires
 write_list-size-requires c =
     let a = c.args in
     let k = whole a.text.now a.out.now _ (sym c.in_ok-tally.was ∙ c.survey_text.ensures) in
-    record { good = all_good a.text.now a.out.now k; room = has_room a.text.now a.out.now k (c.is_none.ensures ∙ ap not c.if-is_none.false) }
+    record { good = all_good a.text.now a.out.now k; room = has_room a.text.now a.out.now k (c.is_err.ensures.negation ∙ ap not c.if-is_err.false) }
 
 pub returns : goal.returns
 returns c =
     let a = c.args in
     let k = whole a.text.now a.out.now _ (sym c.in_ok-tally.was ∙ c.survey_text.ensures) in
-    let both = stored a.text.now a.out.now k (c.is_none.ensures ∙ ap not c.if-is_none.false) c.write_list-size.ensures in
+    let both = stored a.text.now a.out.now k (c.is_err.ensures.negation ∙ ap not c.if-is_err.false) c.write_list-size.ensures in
     record { answer = both.0; out = both.1 }
