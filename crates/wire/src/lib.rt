@@ -39,7 +39,9 @@ fn no_member(message: u8, s: &[u8]) -> bool
     }
 }
 
-// A message's refusal as a session reads it, 2 to 6.
+// A message's refusal as a session reads it, 2 to 6. It has two callers, and each call is short where the message is broken at once: so it is to be
+// inlined.
+#[inline(always)]
 pub fn decode(message: u8, s: &[u8]) -> Result<(), Refusal>
     ensures { refusal_number result ≡ decode_number message s.now }
 {

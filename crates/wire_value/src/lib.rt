@@ -2,11 +2,12 @@
 #![tactic(auto)]
 
 ghost use Rattle.std.specs.Prelude.{◌≡◌, ◌<◌};
+ghost use Rattle.wire_types.specs.Refusals.{at_place};
 ghost use Rattle.wire_varint.specs.Varint.{varint_at};
 ghost use Rattle.wire_value.specs.Field.{fixed_at, number_read, part_of, payload_at};
 
 use wire_types::{Refusal, Refused, Span};
-use wire_varint::{Varint, varint_at};
+use wire_varint::{Varint, VarintError, varint_at};
 
 // A field's value: a number, a fixed field up to a place, or where its bytes are.
 #[derive(Clone, Copy)]
@@ -31,16 +32,20 @@ fn fixed_at(s: &[u8], at: usize, from: usize, width: usize) -> Result<usize, Ref
     }
 }
 
+fn at_place(refusal: Refusal, place: usize) -> Refused
+    ensures { result ≡ at_place refusal place }
+{
+    Refused { refusal, place }
+}
+
 // A number alone, as packed lists have it.
 pub fn number_at(s: &[u8], at: usize) -> Result<Varint, Refused>
     ensures { result ≡ number_read at (varint_at s.now at) }
 {
     match varint_at(s, at) {
         Ok(number) => Ok(number),
-        Err(_) => Err(Refused {
-            refusal: Refusal::Varint,
-            place: at,
-        }),
+        Err(VarintError::PastEnd) => Err(at_place(Refusal::Varint, at)),
+        Err(VarintError::TooLong) => Err(at_place(Refusal::Varint, at)),
     }
 }
 
@@ -99,21 +104,24 @@ pub fn payload_at(s: &[u8], at: usize, from: usize, wire: u8) -> Result<Payload,
             next: fixed_at(s, at, from, 4)?,
         });
     }
-    let number = number_at(s, from)?;
-    if wire == 0 {
-        return Ok(Payload::Number(number));
-    }
-    let Varint { value, next } = number;
-    let left = (s.len() - next) as u64;
-    if value <= left {
-        Ok(Payload::Part(Span {
-            start: next,
-            end: next + value as usize,
-        }))
-    } else {
-        Err(Refused {
-            refusal: Refusal::Length,
-            place: from,
-        })
+    match varint_at(s, from) {
+        Ok(Varint { value, next }) => {
+            if wire == 0 {
+                return Ok(Payload::Number(Varint { value, next }));
+            }
+            let left = (s.len() - next) as u64;
+            if value <= left {
+                Ok(Payload::Part(Span {
+                    start: next,
+                    end: next + value as usize,
+                }))
+            } else {
+                Err(Refused {
+                    refusal: Refusal::Length,
+                    place: from,
+                })
+            }
+        }
+        Err(_) => Err(at_place(Refusal::Varint, from)),
     }
 }

@@ -67,5 +67,6 @@ pub fn varint_at(s: &[u8], from: usize) -> Result<Varint, VarintError>
             });
         }
     }
-    varint_slow(s, from)
+    let number = varint_slow(s, from)?;
+    Ok(number)
 }

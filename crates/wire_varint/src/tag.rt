@@ -3,7 +3,7 @@ ghost use Rattle.std.specs.Prelude.{◌≡◌};
 ghost use Rattle.wire_varint.specs.Varint.{read};
 ghost use Rattle.wire_varint.specs.Tag.{tag_fits, tag_of, tag_at};
 
-use crate::{Varint, varint_slow};
+use crate::{Varint, VarintError, varint_slow};
 use wire_types::Refusal;
 
 // The greatest tag.
@@ -17,11 +17,14 @@ pub struct Tag {
     pub next: usize,
 }
 
+#[tactic(auto, using(base_laws::proofs::Tests::tests), unfolding(crate::specs::Tag::tag_fits))]
 fn tag_fits(value: u64) -> bool
     ensures { result ≡ tag_fits value }
 {
-    let wire = value % 8;
-    value <= TAG_LIMIT && 1 <= value / 8 && (wire <= 2 || wire == 5)
+    match value % 8 {
+        0 | 1 | 2 | 5 => value <= TAG_LIMIT && 1 <= value / 8,
+        _ => false,
+    }
 }
 
 pub fn tag_of(value: u64, next: usize) -> Result<Tag, Refusal>
@@ -45,7 +48,8 @@ fn tag_slow(s: &[u8], at: usize) -> Result<Tag, Refusal>
 {
     match varint_slow(s, at) {
         Ok(Varint { value, next }) => tag_of(value, next),
-        Err(_) => Err(Refusal::Varint),
+        Err(VarintError::PastEnd) => Err(Refusal::Varint),
+        Err(VarintError::TooLong) => Err(Refusal::Varint),
     }
 }
 

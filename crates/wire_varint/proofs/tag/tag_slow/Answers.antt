@@ -7,6 +7,10 @@ pub returns-in-Ok : goal.returns-in-Ok
 unfolding tag_at
 returns-in-Ok c = rw (sym c.varint_slow.ensures ∙ c.in-Ok.is) c.tag_of.ensures
 
-pub returns-in-Err : goal.returns-in-Err
+pub returns-in-Err-PastEnd : goal.returns-in-Err-PastEnd
 unfolding tag_at tag_of
-returns-in-Err c = rw (sym c.varint_slow.ensures ∙ c.in-Err.is)
+returns-in-Err-PastEnd c = rw (sym c.varint_slow.ensures ∙ c.in-Err-PastEnd.is)
+
+pub returns-in-Err-TooLong : goal.returns-in-Err-TooLong
+unfolding tag_at tag_of
+returns-in-Err-TooLong c = rw (sym c.varint_slow.ensures ∙ c.in-Err-TooLong.is)
