@@ -10,8 +10,8 @@
  *
  * A slice that the library may only read is lent through a second view of the same pages, which can't be written.
  *
- * The library is not compiled with AddressSanitizer, so that sees none of its loads and stores. It calls memmove, for data
- * of 16,384 bytes and more, and nothing else of the C library. The margins are poisoned all the same: the header's second
+ * The library is not compiled with AddressSanitizer, so that sees none of its loads and stores. It calls memmove, for what it
+ * copies, and nothing else of the C library. The margins are poisoned all the same: the header's second
  * part is compiled with it.
  */
 #ifndef LENT_H
