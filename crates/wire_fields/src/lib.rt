@@ -112,7 +112,8 @@ fn later(lo: u64, hi: u64, l: Option<Last>, e: Field) -> Option<Last>
     }
 }
 
-// The last field of a message whose number is from lo to hi. The loop goes from field to field, and counts no index.
+// The last field of a message whose number is from lo to hi. The loop goes from field to field, and counts no index. A fixed field has an arm
+// of its own: it is never the last one, and the other two keep their end in one place, so that no turn has to choose between two.
 pub fn last_in(s: &[u8], lo: u64, hi: u64) -> Option<Last>
     ensures { result ≡ last_in lo hi s.now }
 {
@@ -122,8 +123,13 @@ pub fn last_in(s: &[u8], lo: u64, hi: u64) -> Option<Last>
         let Some(e) = field_at(s, at) else {
             return found;
         };
-        found = later(lo, hi, found, e);
-        at = e.next();
+        match e {
+            Field::Fixed { next, .. } => at = next,
+            Field::Number { .. } | Field::Part { .. } => {
+                found = later(lo, hi, found, e);
+                at = e.next();
+            }
+        }
     }
     found
 }

@@ -54,6 +54,14 @@ fn varint_slow(s: &[u8], from: usize) -> Result<Varint, VarintError>
     Err(VarintError::PastEnd)
 }
 
+// The same, with room of its own for what `varint_slow` answers: in `varint_at` that room would be cleared before each varint, of one byte too.
+fn varint_long(s: &[u8], from: usize) -> Result<Varint, VarintError>
+    ensures { result ≡ varint_at s.now from }
+{
+    let number = varint_slow(s, from)?;
+    Ok(number)
+}
+
 // The varint at a place. Most are one byte, which has a fast path.
 pub fn varint_at(s: &[u8], from: usize) -> Result<Varint, VarintError>
     ensures { result ≡ varint_at s.now from }
@@ -67,6 +75,5 @@ pub fn varint_at(s: &[u8], from: usize) -> Result<Varint, VarintError>
             });
         }
     }
-    let number = varint_slow(s, from)?;
-    Ok(number)
+    varint_long(s, from)
 }

@@ -2,8 +2,8 @@
 use native.Mathlib.Omega.{arith}
 use mathlib.Core.Path.{◌≡◌, refl, sym, ap, subst, ◌∙◌}
 use mathlib.Core.List.{List}
-use Rattle.std.specs.Prelude.{Option, None}
-use Rattle.wire_fields.specs.Fields.{on_field, fields_at, last_of, last_in}
+use Rattle.std.specs.Prelude.{Option, Some, None}
+use Rattle.wire_fields.specs.Fields.{later, on_field, fields_at, last_of, last_in}
 use Rattle.wire_fields.specs.declared.Field.{Field}
 use Rattle.wire_fields.proofs.Follow.{MaybeRead, field_read, behind, follow, none}
 use Rattle.wire_fields.proofs.last_in.Goals as goal
@@ -29,6 +29,16 @@ loop-at-init c = (omega arith, refl)
 pub returns-in_default : goal.returns-in_default
 unfolding on_field last_of
 returns-in_default c = (after (goal.at.returns-in_default c).After-field_at None c.in_default.is).1
+
+-- a fixed field is not the last, so what is found stays
+pub loop-at-smaller-in-Fixed : goal.loop-at-smaller-in-Fixed
+loop-at-smaller-in-Fixed c = let h = (after (goal.at.loop-at-smaller-in-Fixed c).After-field_at _ (c.in-Some.is ∙ ap Some c.in-Fixed.is)).0 in omega arith
+
+pub loop-at-preserved-in-Fixed : goal.loop-at-preserved-in-Fixed
+unfolding on_field last_of later
+loop-at-preserved-in-Fixed c =
+    let h = after (goal.at.loop-at-preserved-in-Fixed c).After-field_at _ (c.in-Some.is ∙ ap Some c.in-Fixed.is) in
+    (h.0.1, h.1)
 
 pub loop-at-smaller : goal.loop-at-smaller
 loop-at-smaller c =

@@ -1,4 +1,4 @@
--- A varint of one byte is Varints.one_byte's; any other is varint_slow's contract.
+-- A varint of one byte is Varints.one_byte's; any other is varint_long's contract.
 use mathlib.Core.Path.{sym}
 use Rattle.wire_varint.proofs.Varints.{one_byte}
 use Rattle.wire_varint.proofs.varint_at.Goals as goal
