@@ -2,8 +2,8 @@
 -- bytes nor their used length." A tick gives a point or none and is never refused.
 use Rattle.std.specs.Prelude.{ℕ, ◌≡◌, ◌⊎◌, Bool, true, leb, None}
 use Rattle.base_laws.specs.Base.{both}
-use Rattle.wire_message.specs.Message.{Bytes}
-use Rattle.session.specs.Step.{Outcome, step}
+use Rattle.wire_message.specs.Message.{Bytes, Client}
+use Rattle.session.specs.Step.{Outcome, on_member, step}
 use Rattle.session_turn.specs.declared.State.TheVariants.{Closed}
 use Rattle.session.specs.declared.Session.{Session}
 
@@ -29,3 +29,8 @@ pub record Refused (area : Bytes) (used : ℕ) (o : Outcome) : Type 0 where
 -- of any message, in any session: it is taken, which the number 0 says, or refused
 abbrev pub Refusals : Type 0
 Refusals = (se : Session) (area : Bytes) (used : ℕ) (s : Bytes) → ((step se area used s).refusal ≡ 0) ⊎ Refused area used (step se area used s)
+
+-- the same of any member by itself
+abbrev pub MemberRefusals : Type 0
+MemberRefusals = (se : Session) (area : Bytes) (used : ℕ) (d : Bytes) (c : Client)
+    → ((on_member se area used d c).refusal ≡ 0) ⊎ Refused area used (on_member se area used d c)
