@@ -5,7 +5,7 @@ use Rattle.wire_message.specs.Message.{Bytes, Client}
 use Rattle.session.specs.Step.{Outcome, on_member, step}
 use Rattle.session.specs.declared.Session.{Session}
 
--- where no key is named the number is 0
+-- an answer that names no key has 0 in its place
 abbrev pub KeyOf8 : Outcome → Type 0
 KeyOf8 o = (o.refusal ≡ 8) ⊎ (o.key ≡ 0)
 
